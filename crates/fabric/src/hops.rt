@@ -1,0 +1,68 @@
+//! The hop from a node towards another, on any fabric.
+ghost use mathlib.Core.Path.{_≡_};
+ghost use Rattle.fabric.specs.Hop.{leads-onward, labels-short, exitsOf, hopOf, Hopped};
+use crate::picks::Ranked;
+use crate::picks::pick;
+use crate::traits::Fabric;
+
+// A port of `from` and where it leads, as seen by a message to `towards`.
+#[derive(Clone, Copy)]
+pub struct Exit {
+    from: u8,
+    towards: u8,
+    neighbour: Option<u8>,
+}
+
+impl Ranked for Exit as ExitRanked {
+    ghost eligible = { leads-onward };
+
+    ghost rank = { labels-short };
+
+    fn eligible(&self) -> bool {
+        match self.neighbour {
+            Some(w) => (self.from < w && w <= self.towards) || (self.towards <= w && w < self.from),
+            None => false,
+        }
+    }
+
+    fn rank(&self) -> u32 {
+        match self.neighbour {
+            Some(w) => w.abs_diff(self.towards) as u32,
+            None => 0,
+        }
+    }
+}
+
+fn exits<F: Fabric>(fabric: &F, from: u8, towards: u8) -> [Exit; 8]
+    ensures { λ r. ⌜ r ≡ exitsOf (F·Fabric .near (now (fabric .entry))) from towards ⌝ }
+{
+    let mut exits = [Exit {
+        from,
+        towards,
+        neighbour: None,
+    }; 8];
+    for port in 0..8u8 {
+        let neighbour = fabric.neighbour(from, port);
+        exits[port as usize] = Exit {
+            from,
+            towards,
+            neighbour,
+        };
+    }
+    exits
+}
+
+/// The farthest neighbour of `from` on the way to `towards` that is not past it.
+pub fn hop<F: Fabric>(fabric: &F, from: u8, towards: u8) -> Option<u8>
+    ensures is { λ r. ⌜ r ≡ hopOf (F·Fabric .nodes (now (fabric .entry))) (F·Fabric .near (now (fabric .entry))) from towards ⌝ }
+    ensures law { λ r. ⌜ Hopped (F·Fabric .nodes (now (fabric .entry))) (F·Fabric .near (now (fabric .entry))) from towards r ⌝ }
+{
+    let size = fabric.size();
+    if from >= size || towards >= size {
+        return None;
+    }
+    match pick(&exits(fabric, from, towards)) {
+        Some(exit) => exit.neighbour,
+        None => None,
+    }
+}
