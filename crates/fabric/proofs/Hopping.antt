@@ -1,12 +1,12 @@
 -- The hop in plain terms, from the choice among the ports and the laws of a fabric.
 use mathlib.Core.Path.{_≡_, refl, sym, ap, subst, _∙_}
 use mathlib.Core.Logic.{_≢_, _↔_, _⊎_, inl, inr, ⊎-elim}
-use mathlib.Core.Bool.{Bool, true, false, cond}
+use mathlib.Core.Bool.{true, false}
 use mathlib.Core.List.{List}
 use Prim.Native.Nat.{ℕ, _+_, _-_, _≤_, _<_}
 use native.Mathlib.Omega.{arith}
 use lib.Dec.{ltb}
-use Rattle.std.proofs.shelf.Tests.{false≢true, cases-lt, ltb-true, lt-ltb, and-parts, and-from}
+use Rattle.std.proofs.shelf.Tests.{false≢true, cases-lt, cases-bool, cond-true, cond-false, ltb-true, lt-ltb, and-parts, and-from}
 use Rattle.std.proofs.shelf.Ways.{tells}
 use Rattle.std.specs.declared.option.Option.{Option}
 use Rattle.std.specs.declared.option.Option.the-variants.{Some, None}
@@ -116,26 +116,25 @@ module _ (nodes : ℕ) (near : Near) (law : Lawful nodes near) (u v : ℕ) where
       led None e = absurd (false≢true (subst (λ o. leads-onward (record { from = exit .from; towards = exit .towards; neighbour = o }) ≡ true) e (h .fit)))
       led (Some w) e = (w, e)
 
-  -- among labels that exist, the hop is where the choice leads
-  pub hop-is : u < nodes → v < nodes → hopOf nodes near u v ≡ end (picked leads-onward labels-short (exitsOf near u v))
+  -- among labels that exist the hop is where the choice leads, and else there is none
+  hop-is : exist nodes u v ≡ true → hopOf nodes near u v ≡ end (picked leads-onward labels-short (exitsOf near u v))
   unfolding hopOf
-  hop-is hu hv = ap (λ t. cond t (end (picked leads-onward labels-short (exitsOf near u v))) None) (exist-true nodes u v hu hv)
+  hop-is e = cond-true (exist nodes u v) (end (picked leads-onward labels-short (exitsOf near u v))) None e
 
-  exists : (w : ℕ) → hopOf nodes near u v ≡ Some w → (u < nodes) × (v < nodes)
+  hop-missing : exist nodes u v ≡ false → hopOf nodes near u v ≡ None
   unfolding hopOf
-  exists w e = known (exist nodes u v) refl e
-    where
-      known : (t : Bool) → exist nodes u v ≡ t → cond t (end (picked leads-onward labels-short (exitsOf near u v))) None ≡ Some w → (u < nodes) × (v < nodes)
-      known true t f = true-exist nodes u v t
-      known false t f = absurd (nothing f)
+  hop-missing e = cond-false (exist nodes u v) (end (picked leads-onward labels-short (exitsOf near u v))) None e
+
+  exists : (w : ℕ) → hopOf nodes near u v ≡ Some w → exist nodes u v ≡ true
+  exists w e = ⊎-elim (λ t. t) (λ f. absurd (nothing (sym (hop-missing f) ∙ e))) (cases-bool (exist nodes u v))
 
   sound : (w : ℕ) → hopOf nodes near u v ≡ Some w → Nearest w
-  sound w e = let x = exists w e in sound-of (picked leads-onward labels-short (exitsOf near u v)) choice w (sym (hop-is (x .0) (x .1)) ∙ e)
+  sound w e = sound-of (picked leads-onward labels-short (exitsOf near u v)) choice w (sym (hop-is (exists w e)) ∙ e)
 
   there : u < nodes → v < nodes → u ≢ v → (w : ℕ) × (hopOf nodes near u v ≡ Some w)
   there hu hv ne =
       let s = there-of hu hv ne (picked leads-onward labels-short (exitsOf near u v)) choice in
-      (s .0, hop-is hu hv ∙ s .1)
+      (s .0, hop-is (exist-true nodes u v hu hv) ∙ s .1)
 
   whole : u < nodes → v < nodes → u ≢ v → (w : ℕ) → Nearest w → hopOf nodes near u v ≡ Some w
   whole hu hv ne w h =
@@ -166,7 +165,7 @@ module _ (nodes : ℕ) (near : Near) (law : Lawful nodes near) (u v : ℕ) where
   )
 
   only : (w : ℕ) → hopOf nodes near u v ≡ Some w → (u < nodes) × (v < nodes) × (u ≢ v)
-  only w e = let x = exists w e in (x .0, x .1, omega (arith, sound w e .on))
+  only w e = let x = true-exist nodes u v (exists w e) in (x .0, x .1, omega (arith, sound w e .on))
 
   pub hop-law : Hopped nodes near u v (hopOf nodes near u v)
   hop-law = record {
@@ -188,9 +187,12 @@ module _ (nodes : ℕ) (near : Near) (law : Lawful nodes near) (u v : ℕ) where
   no-hop out (Some w) f = let o = only w f in absurd (out (o .0) (o .1) (o .2))
 
   -- the value and the law together
-  pub hop-as : (r : Option ℕ) → r ≡ hopOf nodes near u v → record { is : r ≡ hopOf nodes near u v; law : Hopped nodes near u v r }
+  hop-as : (r : Option ℕ) → r ≡ hopOf nodes near u v → record { is : r ≡ hopOf nodes near u v; law : Hopped nodes near u v r }
   hop-as r e = record { is = e; law = subst (λ x. Hopped nodes near u v x) (sym e) hop-law }
 
-  -- what the code picked, among labels that exist
-  pub hop-end : (r : Option Exit) (exits : List Exit) → u < nodes → v < nodes → r ≡ picked leads-onward labels-short exits → exits ≡ exitsOf near u v → end r ≡ hopOf nodes near u v
-  hop-end r exits hu hv e f = ap end (e ∙ ap (picked leads-onward labels-short) f) ∙ sym (hop-is hu hv)
+  -- what the code answers: what it picked among labels that exist, and else none
+  pub hop-end : (r : Option Exit) (exits : List Exit) → exist nodes u v ≡ true → r ≡ picked leads-onward labels-short exits → exits ≡ exitsOf near u v → record { is : end r ≡ hopOf nodes near u v; law : Hopped nodes near u v (end r) }
+  hop-end r exits h e f = hop-as (end r) (ap end (e ∙ ap (picked leads-onward labels-short) f) ∙ sym (hop-is h))
+
+  pub hop-none : exist nodes u v ≡ false → record { is : None ≡ hopOf nodes near u v; law : Hopped nodes near u v None }
+  hop-none e = hop-as None (sym (hop-missing e))

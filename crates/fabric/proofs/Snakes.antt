@@ -6,16 +6,17 @@ use Prim.Native.Nat.{ℕ, zero, suc, _+_, _-_, _*_, _/_, _%_, _^_, _≤_, _<_}
 use native.Mathlib.Omega.{arith}
 use lib.Dec.{eqb, leb, ltb}
 use Rattle.std.proofs.shelf.Bits.{div-add-mod', div-mul-add, mod-mul-add, mul-add-lt, div-below, mod-below, mul-le}
-use Rattle.std.proofs.shelf.Tests.{cases-lt, ltb-true, lt-ltb, leb-true, le-leb, eq-eqb, ne-eqb, cond-true, cond-false, and-from, and-parts}
+use Rattle.std.proofs.shelf.Tests.{cases-lt, both-ways, ltb-true, lt-ltb, leb-true, le-leb, eq-eqb, ne-eqb, cond-true, cond-false, and-from, and-parts}
 use Rattle.std.specs.declared.option.Option.{Option}
 use Rattle.std.specs.declared.option.Option.the-variants.{Some, None}
 use Rattle.std.specs.declared.result.Result.{Result}
 use Rattle.std.specs.declared.result.Result.the-variants.{Ok, Err}
-use Rattle.fabric.specs.Fabrics.{Lawful}
+use Rattle.fabric.specs.Fabrics.{Lawful, labelWith}
 use Rattle.fabric.specs.Options.{allowed, each}
 use Rattle.fabric.specs.Placed.{BySteps}
-use Rattle.fabric.specs.Snake.{Shape, shapeOf, Place, inside, turned, labelAt, labelOf, placeAt, placeOf, Placed, beside, meshNear, addressAt}
-use Rattle.fabric.proofs.Optional.{nothing, allowed-is}
+use Rattle.fabric.specs.Snake.{Shape, shapeOf, Place, inside, turned, labelAt, labelOf, placeAt, placeOf, Placed, beside, meshNear, addressAt, placeWith, meshAddresses}
+use Rattle.fabric.proofs.Coding.{label-found, label-none}
+use Rattle.fabric.proofs.Optional.{nothing, same, allowed-is}
 use Rattle.fabric.proofs.Placing.{Placing, placed-lawful, near-as}
 
 pub narrow : (rows columns : ℕ) → Shape rows columns → (rows ≤ 128) × (columns ≤ 128)
@@ -114,8 +115,14 @@ module _ (rows n : ℕ) where
       let m : k % n ≡ x = ap (λ m. m % n) e ∙ mod-mul-add y n x h in
       pair (placeAt n k) (turned n y x, y) (ap₂ (turned n) d m) d
 
-  pub label-inside : (b : Place) → In b → labelOf rows n b ≡ Some (labelAt n b)
-  label-inside b i = cond-true (inside rows n b) (Some (labelAt n b)) None (and-from _ _ (lt-ltb (b .0) n (i .0)) (lt-ltb (b .1) rows (i .1)))
+  inside-true : (b : Place) → In b → inside rows n b ≡ true
+  inside-true b i = and-from _ _ (lt-ltb (b .0) n (i .0)) (lt-ltb (b .1) rows (i .1))
+
+  within : (b : Place) → inside rows n b ≡ true → In b
+  within b e = let i = and-parts _ _ e in (ltb-true (b .0) n (i .0), ltb-true (b .1) rows (i .1))
+
+  label-inside : (b : Place) → In b → labelOf rows n b ≡ Some (labelAt n b)
+  label-inside b i = cond-true (inside rows n b) (Some (labelAt n b)) None (inside-true b i)
 
   module _ (shape : Shape rows n) where
     placed : (k : ℕ) → k < rows * n → In (placeAt n k)
@@ -185,10 +192,9 @@ module _ (rows n : ℕ) where
       (λ e. let h = at-place k a (sym e) in label-inside a (h .2) ∙ ap Some (ap (labelAt n) (sym (h .1)) ∙ label-place k (h .0))),
       (λ e.
           let h = allowed-is (inside rows n a) e in
-          let i = and-parts _ _ (h .0) in
-          let within : In a = (ltb-true (a .0) n (i .0), ltb-true (a .1) rows (i .1)) in
-          cond-true (ltb k (rows * n)) (Some (placeAt n k)) None (lt-ltb k (rows * n) (subst (λ (l : ℕ). l < rows * n) (h .1) (below a within)))
-          ∙ ap Some (ap (placeAt n) (sym (h .1)) ∙ place-label a within)),
+          let i = within a (h .0) in
+          cond-true (ltb k (rows * n)) (Some (placeAt n k)) None (lt-ltb k (rows * n) (subst (λ (l : ℕ). l < rows * n) (h .1) (below a i)))
+          ∙ ap Some (ap (placeAt n) (sym (h .1)) ∙ place-label a i)),
     )
 
     pub place-as : (k : ℕ) (r : Option Place) → r ≡ placeOf rows n k → record { is : r ≡ placeOf rows n k; law : Placed rows n k r }
@@ -212,6 +218,25 @@ module _ (rows n : ℕ) where
     pub small-address : (a : Place) → In a → addressAt a < 2 ^ 32
     small-address a i = let w = narrow rows n shape in omega arith
 
-    -- the place that an address names
-    pub split-address : (x : ℕ) (a : Place) → In a → addressAt a ≡ x → (a .0 ≡ x % 256) × (a .1 ≡ x / 256)
-    split-address x a i e = let w = narrow rows n shape in (omega arith, omega arith)
+    -- a place of the mesh is the one with its address
+    with-address : (x : ℕ) (a : Place) → In a → addressAt a ≡ x → placeWith x ≡ Some a
+    with-address x a i e =
+        let w = narrow rows n shape in
+        cond-true (ltb x 65536) (Some (x % 256, x / 256)) None (lt-ltb x 65536 (omega arith)) ∙ ap Some (pair (x % 256, x / 256) a (omega arith) (omega arith))
+
+    -- so the label with an address is that of its place, and there is none for a place off the mesh
+    pub label-by-place : (x : ℕ) (a : Place) → Some a ≡ placeWith x → labelOf rows n a ≡ labelWith (meshAddresses rows n) x
+    label-by-place x a e = go (inside rows n a) refl
+      where
+        go : (t : Bool) → inside rows n a ≡ t → labelOf rows n a ≡ labelWith (meshAddresses rows n) x
+        go true f =
+            let h = allowed-is (ltb x 65536) (sym e) in
+            let whole : addressAt a ≡ x = omega (arith, ap (λ (b : Place). b .0) (h .1), ap (λ (b : Place). b .1) (h .1)) in
+            let i = within a f in
+            label-inside a i ∙ label-found mesh-placing addressAt one-address a i ∙ ap (labelWith (meshAddresses rows n)) whole
+        go false f =
+            cond-false (inside rows n a) (Some (labelAt n a)) None f
+            ∙ label-none mesh-placing addressAt x (λ b i g. both-ways (inside rows n a) f (subst (λ c. inside rows n c ≡ true) (same (sym (e ∙ with-address x b i g))) (inside-true b i)))
+
+    pub label-off : (x : ℕ) → None ≡ placeWith x → None ≡ labelWith (meshAddresses rows n) x
+    label-off x e = label-none mesh-placing addressAt x (λ b i g. nothing (e ∙ with-address x b i g))

@@ -1,11 +1,10 @@
 -- A walk by hops ends at its target, and the way is the only list of labels that leads there by hops.
 use mathlib.Core.Path.{_≡_, refl, sym, ap, subst, _∙_}
-use mathlib.Core.Bool.{Bool, true, false}
-use mathlib.Core.Logic.{_≢_, ⊎-elim}
+use mathlib.Core.Bool.{true}
+use mathlib.Core.Logic.{⊎-elim}
 use mathlib.Core.List.{List, [], _∷_}
-use Prim.Native.Nat.{ℕ, zero, suc, _+_, _≤_, _<_}
+use Prim.Native.Nat.{ℕ, zero, suc, _≤_, _<_}
 use native.Mathlib.Omega.{arith}
-use native.Mathlib.Numerals.{add-one}
 use lib.ListN.{length}
 use Rattle.std.proofs.shelf.Tests.{cond-true, cases-eq}
 use Rattle.std.specs.declared.option.Option.{Option}
@@ -14,7 +13,7 @@ use Rattle.fabric.specs.Fabrics.{Near, Lawful}
 use Rattle.fabric.specs.Hop.{distance, exist, hopOf}
 use Rattle.fabric.specs.Options.{allowed}
 use Rattle.fabric.specs.Way.{led, leads, hopsOf, wayOf, lengthOf, ByHops, Travelled, Measured}
-use Rattle.fabric.proofs.Optional.{nothing, same, allowed-is}
+use Rattle.fabric.proofs.Optional.{nothing, allowed-is}
 use Rattle.fabric.proofs.Hopping.{hop-law, hop-onward, hop-nearer, no-hop, exist-true, true-exist}
 
 module _ (nodes : ℕ) (near : Near) (law : Lawful nodes near) (v : ℕ) (aim : v < nodes) where
@@ -88,36 +87,24 @@ module _ (nodes : ℕ) (near : Near) (law : Lawful nodes near) (v : ℕ) (aim : 
   hops-alone u [] h b = hops-stay u h (no-hop nodes near law u v (λ _ _ ne. ne b) (hop u) refl)
   hops-alone u (w ∷ ws) h b = hops-on u w h (b .0) ∙ ap (λ xs. w ∷ xs) (hops-alone w ws (nearer u w (b .0) .0) (b .1))
 
-module _ (nodes u v : ℕ) where
-  -- what is asked of labels that do not exist is none
-  pub allowed-none : {A : Type 0} (x : A) → (u < nodes → v < nodes → ⊥) → None ≡ allowed (exist nodes u v) x
-  allowed-none x out = go (exist nodes u v) refl
-    where
-      go : (t : Bool) → exist nodes u v ≡ t → None ≡ allowed t x
-      go true e = let h = true-exist nodes u v e in absurd (out (h .0) (h .1))
-      go false e = refl
-
-  pub allowed-some : {A : Type 0} (x : A) → u < nodes → v < nodes → allowed (exist nodes u v) x ≡ Some x
-  allowed-some x hu hv = cond-true (exist nodes u v) (Some x) None (exist-true nodes u v hu hv)
-
-  known : {A : Type 0} (x y : A) → allowed (exist nodes u v) x ≡ Some y → (u < nodes) × (v < nodes) × (x ≡ y)
-  known x y e = let h = allowed-is (exist nodes u v) e in let k = true-exist nodes u v (h .0) in (k .0, k .1, h .1)
+known : {A : Type 0} (nodes u v : ℕ) (x y : A) → allowed (exist nodes u v) x ≡ Some y → (u < nodes) × (v < nodes) × (x ≡ y)
+known nodes u v x y e = let h = allowed-is (exist nodes u v) e in let k = true-exist nodes u v (h .0) in (k .0, k .1, h .1)
 
 module _ (nodes : ℕ) (near : Near) (law : Lawful nodes near) (u v : ℕ) where
   way-law : Travelled nodes near u v (wayOf nodes near u v)
   way-law = record {
-    there = λ hu hv. (hopsOf nodes near u v, allowed-some nodes u v (u ∷ hopsOf nodes near u v) hu hv, hops-lead nodes near law v hv u hu .0);
+    there = λ hu hv. (hopsOf nodes near u v, cond-true (exist nodes u v) _ _ (exist-true nodes u v hu hv), hops-lead nodes near law v hv u hu .0);
     alone = λ ws xs e b. let k = known nodes u v (u ∷ hopsOf nodes near u v) xs e in sym (k .2) ∙ ap (λ l. u ∷ l) (hops-alone nodes near law v (k .1) u ws (k .0) b);
     only = λ xs e. let k = known nodes u v (u ∷ hopsOf nodes near u v) xs e in (k .0, k .1);
   }
 
   length-law : Measured nodes near u v (lengthOf nodes near u v)
   length-law = record {
-    there = λ hu hv. (length (hopsOf nodes near u v), allowed-some nodes u v (length (hopsOf nodes near u v)) hu hv);
+    there = λ hu hv. (length (hopsOf nodes near u v), cond-true (exist nodes u v) _ _ (exist-true nodes u v hu hv));
     counts = λ ws k e b. let x = known nodes u v (length (hopsOf nodes near u v)) k e in sym (x .2) ∙ ap length (hops-alone nodes near law v (x .1) u ws (x .0) b);
     stay = λ hu e.
         let hv : v < nodes = omega arith in
-        allowed-some nodes u v (length (hopsOf nodes near u v)) hu hv ∙ ap (λ l. Some (length l)) (hops-alone nodes near law v hv u [] hu e);
+        cond-true (exist nodes u v) _ _ (exist-true nodes u v hu hv) ∙ ap (λ l. Some (length l)) (hops-alone nodes near law v hv u [] hu e);
     short = λ k e.
         let x = known nodes u v (length (hopsOf nodes near u v)) k e in
         let few = law .bounded in
@@ -126,9 +113,13 @@ module _ (nodes : ℕ) (near : Near) (law : Lawful nodes near) (u v : ℕ) where
     only = λ k e. let x = known nodes u v (length (hopsOf nodes near u v)) k e in (x .0, x .1);
   }
 
-  -- the value and the law together
-  pub way-as : (r : Option (List ℕ)) → r ≡ wayOf nodes near u v → record { is : r ≡ wayOf nodes near u v; law : Travelled nodes near u v r }
-  way-as r e = record { is = e; law = subst (λ x. Travelled nodes near u v x) (sym e) way-law }
+  -- what the code answers for labels that exist
+  pub way-as : (ws : List ℕ) → exist nodes u v ≡ true → ws ≡ u ∷ hopsOf nodes near u v → record { is : Some ws ≡ wayOf nodes near u v; law : Travelled nodes near u v (Some ws) }
+  way-as ws h e =
+      let is : Some ws ≡ wayOf nodes near u v = ap Some e ∙ sym (cond-true (exist nodes u v) _ None h) in
+      record { is = is; law = subst (λ x. Travelled nodes near u v x) (sym is) way-law }
 
-  pub length-as : (r : Option ℕ) → r ≡ lengthOf nodes near u v → record { is : r ≡ lengthOf nodes near u v; law : Measured nodes near u v r }
-  length-as r e = record { is = e; law = subst (λ x. Measured nodes near u v x) (sym e) length-law }
+  pub length-as : (k : ℕ) → exist nodes u v ≡ true → k ≡ length (hopsOf nodes near u v) → record { is : Some k ≡ lengthOf nodes near u v; law : Measured nodes near u v (Some k) }
+  length-as k h e =
+      let is : Some k ≡ lengthOf nodes near u v = ap Some e ∙ sym (cond-true (exist nodes u v) _ None h) in
+      record { is = is; law = subst (λ x. Measured nodes near u v x) (sym is) length-law }

@@ -62,5 +62,9 @@ meshNear rows columns = via (rows * columns) (placeAt columns) (labelAt columns)
 abbrev pub addressAt : Place → ℕ
 addressAt a = 256 * a .1 + a .0
 
+-- the place that has an address on some mesh
+abbrev pub placeWith : ℕ → Option Place
+placeWith x = allowed (ltb x 65536) (x % 256, x / 256)
+
 abbrev pub meshAddresses : ℕ → ℕ → List ℕ
 meshAddresses rows columns = codes (rows * columns) (placeAt columns) addressAt

@@ -1,6 +1,6 @@
 //! The hop from a node towards another, on any fabric.
 ghost use mathlib.Core.Path.{_≡_};
-ghost use Rattle.fabric.specs.Hop.{leads-onward, labels-short, exitsOf, hopOf, Hopped};
+ghost use Rattle.fabric.specs.Hop.{exist, leads-onward, labels-short, exitsOf, hopOf, Hopped};
 use crate::picks::Ranked;
 use crate::picks::pick;
 use crate::traits::Fabric;
@@ -33,6 +33,15 @@ impl Ranked for Exit as ExitRanked {
     }
 }
 
+/// Whether both labels are of nodes.
+pub(crate) fn both_exist<F: Fabric>(fabric: &F, u: u8, v: u8) -> bool
+    ensures { λ r. ⌜ r ≡ exist (F·Fabric .nodes (now (fabric .entry))) u v ⌝ }
+{
+    let size = fabric.size();
+    u < size && v < size
+}
+
+// The ports of a node.
 fn exits<F: Fabric>(fabric: &F, from: u8, towards: u8) -> [Exit; 8]
     ensures { λ r. ⌜ r ≡ exitsOf (F·Fabric .near (now (fabric .entry))) from towards ⌝ }
 {
@@ -57,8 +66,7 @@ pub fn hop<F: Fabric>(fabric: &F, from: u8, towards: u8) -> Option<u8>
     ensures is { λ r. ⌜ r ≡ hopOf (F·Fabric .nodes (now (fabric .entry))) (F·Fabric .near (now (fabric .entry))) from towards ⌝ }
     ensures law { λ r. ⌜ Hopped (F·Fabric .nodes (now (fabric .entry))) (F·Fabric .near (now (fabric .entry))) from towards r ⌝ }
 {
-    let size = fabric.size();
-    if from >= size || towards >= size {
+    if !both_exist(fabric, from, towards) {
         return None;
     }
     match pick(&exits(fabric, from, towards)) {

@@ -3,7 +3,7 @@ ghost use mathlib.Core.Path.{_≡_};
 ghost use Prim.Native.Nat.{_*_, _<_};
 ghost use Rattle.fabric.specs.Placed.{BySteps};
 ghost use Rattle.fabric.specs.Refusals.{told};
-ghost use Rattle.fabric.specs.Snake.{Shape, shapeOf, turned, labelOf, placeAt, placeOf, Placed, beside, meshNear, meshAddresses};
+ghost use Rattle.fabric.specs.Snake.{Shape, shapeOf, turned, labelOf, placeAt, placeOf, Placed, beside, meshNear, addressAt, placeWith, meshAddresses};
 use crate::refusals::Refusal;
 use crate::traits::Addressed;
 use crate::traits::Fabric;
@@ -13,10 +13,11 @@ use crate::traits::Fabric;
 pub struct Mesh {
     rows: u8,
     columns: u8,
-    ghost shape: { Shape rows columns },
+    ghost fits: { Shape rows columns },
 }
 
 impl Mesh {
+    /// A mesh of so many rows and columns, or the refusal where there is none.
     pub fn new(rows: u32, columns: u32) -> Result<Mesh, Refusal>
         ensures { λ r. ⌜ told (λ m. (m .rows, m .columns)) r ≡ shapeOf rows columns ⌝ }
     {
@@ -32,16 +33,11 @@ impl Mesh {
         })
     }
 
-    pub fn rows(&self) -> u8
-        ensures { λ r. ⌜ r ≡ now (self .entry) .rows ⌝ }
+    /// The number of rows and the number of columns.
+    pub fn shape(&self) -> (u8, u8)
+        ensures { λ r. ⌜ r ≡ (now (self .entry) .rows, now (self .entry) .columns) ⌝ }
     {
-        self.rows
-    }
-
-    pub fn columns(&self) -> u8
-        ensures { λ r. ⌜ r ≡ now (self .entry) .columns ⌝ }
-    {
-        self.columns
+        (self.rows, self.columns)
     }
 
     /// The label of a place.
@@ -61,11 +57,18 @@ impl Mesh {
         ensures is { λ r. ⌜ r ≡ placeOf (now (self .entry) .rows) (now (self .entry) .columns) label ⌝ }
         ensures law { λ r. ⌜ Placed (now (self .entry) .rows) (now (self .entry) .columns) label r ⌝ }
     {
-        if label >= self.rows * self.columns {
-            return None;
+        if label < self.size() {
+            Some(self.place_at(label))
+        } else {
+            None
         }
+    }
+
+    fn place_at(&self, label: u8) -> (u8, u8)
+        ensures { λ r. ⌜ r ≡ placeAt (now (self .entry) .columns) label ⌝ }
+    {
         let y = label / self.columns;
-        Some((self.turned(y, label % self.columns), y))
+        (self.turned(y, label % self.columns), y)
     }
 
     // A column counted the way its row goes: odd rows run backwards.
@@ -110,20 +113,32 @@ pub impl Fabric for Mesh as MeshFabric {
     }
 }
 
+fn address_at(place: (u8, u8)) -> u32
+    ensures { λ r. ⌜ r ≡ addressAt place ⌝ }
+{
+    let (x, y) = place;
+    256 * y as u32 + x as u32
+}
+
+// The place that has an address on some mesh.
+fn place_with(address: u32) -> Option<(u8, u8)>
+    ensures { λ r. ⌜ r ≡ placeWith address ⌝ }
+{
+    if address < 65536 {
+        Some(((address % 256) as u8, (address / 256) as u8))
+    } else {
+        None
+    }
+}
+
 pub impl Addressed for Mesh as MeshAddressed {
     ghost addresses = { λ m. meshAddresses (m .rows) (m .columns) };
 
     fn address(&self, label: u8) -> Option<u32> {
-        let (x, y) = self.place_of(label)?;
-        Some(256 * y as u32 + x as u32)
+        Some(address_at(self.place_of(label)?))
     }
 
     fn label_of(&self, address: u32) -> Option<u8> {
-        let (x, y) = (address % 256, address / 256);
-        if x < self.columns as u32 && y < self.rows as u32 {
-            self.label_at((x as u8, y as u8))
-        } else {
-            None
-        }
+        self.label_at(place_with(address)?)
     }
 }

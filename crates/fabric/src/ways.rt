@@ -4,6 +4,7 @@ ghost use Rattle.std.specs.Of.Vec.{vec-items};
 ghost use Rattle.std.specs.Vec.{made};
 ghost use Rattle.fabric.specs.Options.{each};
 ghost use Rattle.fabric.specs.Way.{wayOf, Travelled, lengthOf, Measured};
+use crate::hops::both_exist;
 use crate::hops::hop;
 use crate::traits::Fabric;
 use std::alloc::AllocError;
@@ -14,8 +15,7 @@ pub fn length<F: Fabric>(fabric: &F, from: u8, to: u8) -> Option<u8>
     ensures is { λ r. ⌜ r ≡ lengthOf (F·Fabric .nodes (now (fabric .entry))) (F·Fabric .near (now (fabric .entry))) from to ⌝ }
     ensures law { λ r. ⌜ Measured (F·Fabric .nodes (now (fabric .entry))) (F·Fabric .near (now (fabric .entry))) from to r ⌝ }
 {
-    let size = fabric.size();
-    if from >= size || to >= size {
+    if !both_exist(fabric, from, to) {
         return None;
     }
     let mut at = from;
@@ -37,8 +37,7 @@ pub fn way<F: Fabric>(
     ensures is { λ r. ⌜ made r (λ w. each vec-items w ≡ wayOf (F·Fabric .nodes (now (fabric .entry))) (F·Fabric .near (now (fabric .entry))) from to) ⌝ }
     ensures law { λ r. ⌜ made r (λ w. Travelled (F·Fabric .nodes (now (fabric .entry))) (F·Fabric .near (now (fabric .entry))) from to (each vec-items w)) ⌝ }
 {
-    let size = fabric.size();
-    if from >= size || to >= size {
+    if !both_exist(fabric, from, to) {
         return Ok(None);
     }
     let mut labels = Vec::new(heap);

@@ -1,10 +1,8 @@
 use mathlib.Core.Path.{_≡_, sym, ap, _∙_}
 use mathlib.Core.List.{[], _∷_, _++_, append-assoc, append-nil}
-use native.Mathlib.Omega.{arith}
 use Rattle.std.specs.Of.Vec.{vec-items}
-use Rattle.std.specs.declared.option.Option.the-variants.{Some, None}
 use Rattle.fabric.specs.Way.{hopsOf}
-use Rattle.fabric.proofs.Walking.{Turn, turn, hops-stay, allowed-none, allowed-some, way-as}
+use Rattle.fabric.proofs.Walking.{Turn, turn, hops-stay, way-as}
 use Rattle.fabric.proofs.ways.way.Needs as need
 
 next : (g : _) (c : need.In-Continue-push-2 g) → Turn (g .F·Fabric .nodes (c .args .fabric .now)) (g .F·Fabric .near (c .args .fabric .now)) (g .F·Fabric·met .lawful (c .args .fabric .now)) (c .args .to) (c .loop-next .inv .1) (c .loop-next .at) (c .in-Some .next)
@@ -39,4 +37,4 @@ returns g c =
     let labels = vec-items (c .loop-next .labels) in
     let stay = hops-stay n near law v (c .loop-next .inv .1) (c .loop-next .at) (c .loop-next .inv .0) (sym (c .in-rest .ensures tt .is)) in
     let whole : labels ≡ u ∷ hopsOf n near u v = sym (append-nil labels) ∙ ap (λ xs. labels ++ xs) (sym stay) ∙ c .loop-next .inv .2 in
-    way-as n near law u v (Some labels) (ap Some whole ∙ sym (allowed-some n u v _ (omega arith) (c .loop-next .inv .1)))
+    way-as n near law u v labels (sym (c .if-not-both-exist .ensures tt)) whole

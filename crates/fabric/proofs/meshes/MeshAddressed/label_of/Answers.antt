@@ -1,30 +1,17 @@
-use mathlib.Core.Path.{_≡_, ap, _∙_}
-use Prim.Native.Nat.{_%_, _/_}
-use native.Mathlib.Omega.{arith}
-use Rattle.fabric.specs.Fabrics.{labelWith}
-use Rattle.fabric.specs.Snake.{addressAt, meshAddresses}
-use Rattle.fabric.proofs.Coding.{label-as, label-found, label-none}
-use Rattle.fabric.proofs.Snakes.{mesh-placing, one-address, split-address, label-inside}
+use mathlib.Core.Path.{_∙_}
+use Rattle.fabric.specs.Snake.{addressAt}
+use Rattle.fabric.proofs.Coding.{label-as}
+use Rattle.fabric.proofs.Snakes.{mesh-placing, label-by-place, label-off}
 use Rattle.fabric.proofs.meshes.MeshAddressed.label_of.Needs as need
-use Rattle.fabric.proofs.meshes.MeshAddressed.label_of.Needs.{else-x-self·by·then-x-self·else-y-self, else-x-self·by·else-x-self}
 
-pub returns-then-y-self : need.returns-then-y-self
-returns-then-y-self c =
+pub returns-in-Break-place-with : need.returns-in-Break-place-with
+returns-in-Break-place-with c =
     let m = c .args .self .now in
-    let p = mesh-placing (m .rows) (m .columns) (m .shape) in
-    let x = c .args .address in
-    let whole : addressAt (x % 256, x / 256) ≡ x = omega arith in
-    label-as p addressAt x _
-    (c .label-at .ensures
-    ∙ label-inside (m .rows) (m .columns) (x % 256, x / 256) (omega arith)
-    ∙ label-found p addressAt (one-address (m .rows) (m .columns) (m .shape)) (x % 256, x / 256) (omega arith)
-    ∙ ap (labelWith (meshAddresses (m .rows) (m .columns))) whole)
+    label-as (mesh-placing (m .rows) (m .columns) (m .fits)) addressAt (c .args .address) _
+    (c .from-residual .ensures ∙ label-off (m .rows) (m .columns) (m .fits) (c .args .address) (c .in-Break-place-with .ensures tt))
 
-pub returns-else-x-self : need.returns-else-x-self
-returns-else-x-self c =
+pub returns : need.returns
+returns c =
     let m = c .args .self .now in
-    let p = mesh-placing (m .rows) (m .columns) (m .shape) in
-    label-as p addressAt (c .args .address) _
-    (label-none p addressAt (c .args .address) (λ a i e.
-    let s = split-address (m .rows) (m .columns) (m .shape) (c .args .address) a i e in
-    elim (c .else-x-self .came) [ else-x-self·by·then-x-self·else-y-self w ↦ omega arith | else-x-self·by·else-x-self w ↦ omega arith ]))
+    label-as (mesh-placing (m .rows) (m .columns) (m .fits)) addressAt (c .args .address) _
+    (c .label-at .ensures ∙ label-by-place (m .rows) (m .columns) (m .fits) (c .args .address) _ (c .in-Continue-place-with .ensures tt))
