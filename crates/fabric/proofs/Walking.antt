@@ -101,7 +101,9 @@ module _ (nodes : ℕ) (near : Near) (law : Lawful nodes near) (u v : ℕ) where
   length-law : Measured nodes near u v (lengthOf nodes near u v)
   length-law = record {
     there = λ hu hv. (length (hopsOf nodes near u v), cond-true (exist nodes u v) _ _ (exist-true nodes u v hu hv));
-    counts = λ ws k e b. let x = known nodes u v (length (hopsOf nodes near u v)) k e in sym (x .2) ∙ ap length (hops-alone nodes near law v (x .1) u ws (x .0) b);
+    counts = λ k e.
+        let x = known nodes u v (length (hopsOf nodes near u v)) k e in
+        (hopsOf nodes near u v, hops-lead nodes near law v (x .1) u (x .0) .0, x .2);
     stay = λ hu e.
         let hv : v < nodes = omega arith in
         cond-true (exist nodes u v) _ _ (exist-true nodes u v hu hv) ∙ ap (λ l. Some (length l)) (hops-alone nodes near law v hv u [] hu e);

@@ -44,7 +44,7 @@ pub record Travelled (nodes : ℕ) (near : Near) (u v : ℕ) (r : Option (List �
 -- A length is the number of hops on the way, 0 from a label to itself, and never more than the labels are apart.
 pub record Measured (nodes : ℕ) (near : Near) (u v : ℕ) (r : Option ℕ) : Type 0 where
   pub there : u < nodes → v < nodes → (k : ℕ) × (r ≡ Some k)
-  pub counts : (ws : List ℕ) (k : ℕ) → r ≡ Some k → ByHops (hopOf nodes near) u v ws → k ≡ length ws
+  pub counts : (k : ℕ) → r ≡ Some k → (ws : List ℕ) × ByHops (hopOf nodes near) u v ws × (length ws ≡ k)
   pub stay : u < nodes → u ≡ v → r ≡ Some 0
   pub short : (k : ℕ) → r ≡ Some k → (k ≤ distance u v) × (k ≤ 127)
   pub only : (k : ℕ) → r ≡ Some k → (u < nodes) × (v < nodes)

@@ -7,7 +7,7 @@ use crate::traits::Fabric;
 
 // A port of `from` and where it leads, as seen by a message to `towards`.
 #[derive(Clone, Copy)]
-pub struct Exit {
+struct Exit {
     from: u8,
     towards: u8,
     neighbour: Option<u8>,

@@ -1,8 +1,6 @@
 -- The figures, as they are printed in docs/RULES.md.
-use mathlib.Core.Bool.{_&&_, cond}
 use mathlib.Core.List.{[], _∷_}
-use Prim.Native.Nat.{ℕ, _*_}
-use lib.Dec.{leb}
+use Prim.Native.Nat.{ℕ}
 use Rattle.std.specs.declared.option.Option.the-variants.{Some}
 use Rattle.std.specs.declared.result.Result.{Result}
 use Rattle.std.specs.declared.result.Result.the-variants.{Ok, Err}

@@ -1,7 +1,7 @@
 //! Worked examples whose answers are known, as one list: the calls that give them, and the proof that they do.
 ghost use mathlib.Core.Path.{_≡_};
 ghost use Prim.Native.Nat.{_*_};
-ghost use Rattle.std.specs.declared.result.Result.the-variants.{Ok, Err};
+ghost use Rattle.std.specs.declared.result.Result.the-variants.{Ok};
 ghost use Rattle.fabric.specs.Hop.{hopOf};
 ghost use Rattle.fabric.specs.Snake.{labelOf, meshNear};
 ghost use Rattle.figures.specs.Known.{onMesh, known};
