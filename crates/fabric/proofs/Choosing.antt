@@ -1,5 +1,5 @@
 -- The better of several, in any grouping; and what the choice is in plain terms.
-use mathlib.Core.Path.{_≡_, refl, sym, ap, subst, _∙_}
+use mathlib.Core.Path.{_≡_, refl, sym, ap, _∙_}
 use mathlib.Core.List.{List, [], _∷_}
 use mathlib.Core.Bool.{Bool, true, false, cond}
 use Prim.Native.Nat.{ℕ, zero, suc, _+_, _≤_, _<_}
@@ -71,10 +71,6 @@ module _ {A : Type 0} (eligible : A → Bool) (rank : A → ℕ) where
   pub picked-law : (xs : List A) → Picked eligible rank xs (picked eligible rank xs)
   picked-law [] = λ j y at fit. nothing at
   picked-law (x ∷ xs) = more x xs (eligible x) refl (picked eligible rank xs) (picked-law xs)
-
-  -- the value and the law together
-  pub picked-as : (xs : List A) (r : Option A) → r ≡ picked eligible rank xs → record { is : r ≡ picked eligible rank xs; law : Picked eligible rank xs r }
-  picked-as xs r e = record { is = e; law = subst (λ o. Picked eligible rank xs o) (sym e) (picked-law xs) }
 
   better-none : (a : Option A) → better rank a None ≡ a
   better-none None = refl

@@ -5,19 +5,18 @@ use mathlib.Core.Logic.{⊎-elim}
 use mathlib.Core.Bool.{Bool, true, false, cond}
 use Prim.Native.Nat.{ℕ, zero, suc, _+_, _^_, _<_}
 use native.Mathlib.Numerals.{add-one}
-use native.Mathlib.Omega.{arith}
 use lib.Dec.{eqb, ltb}
 use lib.ListN.{length}
 use Rattle.std.specs.Finite.{nth}
 use Rattle.std.proofs.shelf.Counted.{length-map-counting}
-use Rattle.std.proofs.shelf.Tests.{eq-eqb, ne-eqb, eqb-true, eqb-false, lt-ltb, ltb-true, cond-true, cases-lt}
+use Rattle.std.proofs.shelf.Tests.{eqb-true, eqb-false, lt-ltb, ltb-true, cond-true, cases-lt}
 use Rattle.std.specs.declared.option.Option.{Option}
 use Rattle.std.specs.declared.option.Option.the-variants.{Some, None}
 use Rattle.fabric.specs.Fabrics.{AllDifferent, AllFit, labelWith, Located}
 use Rattle.fabric.specs.Options.{allowed, each}
-use Rattle.fabric.specs.Placed.{codes}
+use Rattle.fabric.specs.Steps.{codes}
 use Rattle.fabric.proofs.Counting.{nth-counted, nth-past-count, counted-nth}
-use Rattle.fabric.proofs.Optional.{nothing, same, allowed-is, each-is, each-none}
+use Rattle.fabric.proofs.Optional.{nothing, same, allowed-is, each-is, each-none, with-law}
 use Rattle.fabric.proofs.Placing.{Placing}
 
 -- the label with an address is the one that has it, in plain terms
@@ -33,19 +32,19 @@ located-on x xs a rest false e = record {
   missing = λ f. elim [ zero ↦ λ g. eqb-false x a e (same g) | suc k ↦ rest .missing (each-none (λ i. i + 1) (labelWith xs a) f) k ];
 }
 
-pub located : (xs : List ℕ) (a : ℕ) → Located xs a (labelWith xs a)
+located : (xs : List ℕ) (a : ℕ) → Located xs a (labelWith xs a)
 located [] a = record { found = λ k e. absurd (nothing e); missing = λ _ k e. nothing e }
 located (x ∷ xs) a = located-on x xs a (located xs a) (eqb x a) refl
 
 -- where all addresses differ, the label that has one is the one that is found
-pub label-is : (xs : List ℕ) (a k : ℕ) → AllDifferent xs → nth xs k ≡ Some a → labelWith xs a ≡ Some k
+label-is : (xs : List ℕ) (a k : ℕ) → AllDifferent xs → nth xs k ≡ Some a → labelWith xs a ≡ Some k
 label-is xs a k d e = go (labelWith xs a) refl
   where
     go : (o : Option ℕ) → labelWith xs a ≡ o → o ≡ Some k
     go None f = absurd (located xs a .missing f k e)
     go (Some i) f = ap Some (d i k a (located xs a .found i f) e)
 
-pub label-missing : (xs : List ℕ) (a : ℕ) → ((k : ℕ) → nth xs k ≡ Some a → ⊥) → labelWith xs a ≡ None
+label-missing : (xs : List ℕ) (a : ℕ) → ((k : ℕ) → nth xs k ≡ Some a → ⊥) → labelWith xs a ≡ None
 label-missing xs a out = go (labelWith xs a) refl
   where
     go : (o : Option ℕ) → labelWith xs a ≡ o → o ≡ None
@@ -81,7 +80,9 @@ module _ {P : Type 0} {In : P → Type 0} {nodes : ℕ} {place : ℕ → P} {lab
 
   -- what `label_of` owes, from the label alone
   pub label-as : (x : ℕ) (r : Option ℕ) → r ≡ labelWith (codes nodes place code) x → record { is : r ≡ labelWith (codes nodes place code) x; law : Located (codes nodes place code) x r; long : length (codes nodes place code) ≡ nodes }
-  label-as x r e = record { is = e; law = subst (Located (codes nodes place code) x) (sym e) (located (codes nodes place code) x); long = long }
+  label-as x r e =
+      let l = with-law (Located (codes nodes place code) x) _ (located (codes nodes place code) x) r e in
+      record { is = l .is; law = l .law; long = long }
 
   module _ (one : (a b : P) → In a → In b → code a ≡ code b → a ≡ b) where
     pub different : AllDifferent (codes nodes place code)

@@ -5,7 +5,6 @@ use mathlib.Core.Bool.{true, false}
 use mathlib.Core.List.{List}
 use Prim.Native.Nat.{ℕ, _+_, _-_, _≤_, _<_}
 use native.Mathlib.Omega.{arith}
-use lib.Dec.{ltb}
 use Rattle.std.proofs.shelf.Tests.{false≢true, cases-lt, cases-bool, cond-true, cond-false, ltb-true, lt-ltb, and-parts, and-from}
 use Rattle.std.proofs.shelf.Ways.{tells}
 use Rattle.std.specs.declared.option.Option.{Option}
@@ -16,7 +15,7 @@ use Rattle.fabric.specs.Hop.{distance, exist, onward, leads-onward, labels-sho
 use Rattle.fabric.specs.declared.hops.Exit.{Exit}
 use Rattle.fabric.proofs.Choosing.{picked-law}
 use Rattle.fabric.proofs.Counting.{nth-counted, counted-nth}
-use Rattle.fabric.proofs.Optional.{nothing}
+use Rattle.fabric.proofs.Optional.{nothing, with-law}
 
 pub exist-true : (nodes u v : ℕ) → u < nodes → v < nodes → exist nodes u v ≡ true
 exist-true nodes u v hu hv = and-from _ _ (lt-ltb u nodes hu) (lt-ltb v nodes hv)
@@ -25,7 +24,7 @@ pub true-exist : (nodes u v : ℕ) → exist nodes u v ≡ true → (u < nodes) 
 true-exist nodes u v e = let p = and-parts _ _ e in (ltb-true u nodes (p .0), ltb-true v nodes (p .1))
 
 -- past u and not past v
-abbrev Onward : ℕ → ℕ → ℕ → Type 0
+abbrev pub Onward : ℕ → ℕ → ℕ → Type 0
 Onward u v w = ((u < w) × (w ≤ v)) ⊎ ((v ≤ w) × (w < u))
 
 onward-true : (u v w : ℕ) → Onward u v w → onward u v w ≡ true
@@ -176,7 +175,7 @@ module _ (nodes : ℕ) (near : Near) (law : Lawful nodes near) (u v : ℕ) where
   }
 
   -- a hop leads to a label that exists, past u and not past the target, so nearer to it
-  pub hop-onward : (w : ℕ) → hopOf nodes near u v ≡ Some w → (w < nodes) × (((u < w) × (w ≤ v)) ⊎ ((v ≤ w) × (w < u)))
+  pub hop-onward : (w : ℕ) → hopOf nodes near u v ≡ Some w → (w < nodes) × Onward u v w
   hop-onward w e = let s = sound w e in (law .within u (s .neighbour .0) w (s .neighbour .1) .2, s .on)
 
   pub hop-nearer : (w : ℕ) → hopOf nodes near u v ≡ Some w → distance w v < distance u v
@@ -186,13 +185,9 @@ module _ (nodes : ℕ) (near : Near) (law : Lawful nodes near) (u v : ℕ) where
   no-hop out None f = refl
   no-hop out (Some w) f = let o = only w f in absurd (out (o .0) (o .1) (o .2))
 
-  -- the value and the law together
-  hop-as : (r : Option ℕ) → r ≡ hopOf nodes near u v → record { is : r ≡ hopOf nodes near u v; law : Hopped nodes near u v r }
-  hop-as r e = record { is = e; law = subst (λ x. Hopped nodes near u v x) (sym e) hop-law }
-
   -- what the code answers: what it picked among labels that exist, and else none
   pub hop-end : (r : Option Exit) (exits : List Exit) → exist nodes u v ≡ true → r ≡ picked leads-onward labels-short exits → exits ≡ exitsOf near u v → record { is : end r ≡ hopOf nodes near u v; law : Hopped nodes near u v (end r) }
-  hop-end r exits h e f = hop-as (end r) (ap end (e ∙ ap (picked leads-onward labels-short) f) ∙ sym (hop-is h))
+  hop-end r exits h e f = with-law (Hopped nodes near u v) _ hop-law (end r) (ap end (e ∙ ap (picked leads-onward labels-short) f) ∙ sym (hop-is h))
 
   pub hop-none : exist nodes u v ≡ false → record { is : None ≡ hopOf nodes near u v; law : Hopped nodes near u v None }
-  hop-none e = hop-as None (sym (hop-missing e))
+  hop-none e = with-law (Hopped nodes near u v) _ hop-law None (sym (hop-missing e))

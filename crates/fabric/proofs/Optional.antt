@@ -1,5 +1,5 @@
--- Values that may be missing.
-use mathlib.Core.Path.{_≡_, refl, sym}
+-- Values that may be missing, and values that keep a law.
+use mathlib.Core.Path.{_≡_, refl, sym, subst}
 use mathlib.Core.Bool.{Bool, true, false}
 use Prim.Native.Nat.{ℕ}
 use native.Mathlib.Omega.{arith}
@@ -27,3 +27,7 @@ each-is f (Some x) e = (x, refl, same e)
 pub each-none : {A B : Type 0} (f : A → B) (o : Option A) → each f o ≡ None → o ≡ None
 each-none f None e = refl
 each-none f (Some x) e = absurd (nothing (sym e))
+
+-- what equals a value that keeps a law keeps it too: the two promises of a call together
+pub with-law : {A : Type 0} (Law : A → Type 0) (x : A) → Law x → (r : A) → r ≡ x → record { is : r ≡ x; law : Law r }
+with-law Law x h r e = record { is = e; law = subst Law (sym e) h }

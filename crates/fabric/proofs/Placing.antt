@@ -1,5 +1,5 @@
 -- A fabric by places is lawful, if the labels and the places are one to one, and the steps between places are as in a fabric.
-use mathlib.Core.Path.{_≡_, refl, sym, ap, subst, _∙_}
+use mathlib.Core.Path.{_≡_, refl, sym, ap, _∙_}
 use mathlib.Core.Bool.{Bool, true, false, cond}
 use Prim.Native.Nat.{ℕ, _+_, _≤_, _<_}
 use native.Mathlib.Omega.{arith}
@@ -9,7 +9,7 @@ use Rattle.std.specs.declared.option.Option.{Option}
 use Rattle.std.specs.declared.option.Option.the-variants.{Some, None}
 use Rattle.fabric.specs.Fabrics.{Near, Neighbours, Lawful}
 use Rattle.fabric.specs.Options.{each}
-use Rattle.fabric.specs.Placed.{via, BySteps}
+use Rattle.fabric.specs.Steps.{via, BySteps}
 use Rattle.fabric.proofs.Optional.{nothing, same}
 
 module _ {P : Type 0} (In : P → Type 0) (nodes : ℕ) (place : ℕ → P) (label : P → ℕ) (step : P → ℕ → Option P) where
@@ -93,13 +93,9 @@ module _ {P : Type 0} (In : P → Type 0) (nodes : ℕ) (place : ℕ → P) (lab
       chain = onward;
     }
 
-    by-steps : (u p : ℕ) → BySteps nodes place step u p (via nodes place label step u p)
+    pub placed-by-steps : (u p : ℕ) → BySteps nodes place step u p (via nodes place label step u p)
     unfolding near
-    by-steps u p v = (
+    placed-by-steps u p v = (
       (λ e. let k = known u p v e in (k .0, k .2, goes u p v (taken u p v e))),
       (λ h. take u p v (record { from = h .0; at = place v; steps = h .2; is = law .label-place v (h .1) })),
     )
-
-    -- the value and the law together
-    pub near-as : (u p : ℕ) (r : Option ℕ) → r ≡ via nodes place label step u p → record { is : r ≡ via nodes place label step u p; law : BySteps nodes place step u p r }
-    near-as u p r e = record { is = e; law = subst (BySteps nodes place step u p) (sym e) (by-steps u p) }

@@ -6,26 +6,23 @@ use Prim.Native.Nat.{ℕ, zero, suc, _+_, _-_, _*_, _/_, _%_, _^_, _≤_, _<_}
 use native.Mathlib.Omega.{arith}
 use lib.Dec.{eqb, leb, ltb}
 use Rattle.std.proofs.shelf.Bits.{div-add-mod', div-mul-add, mod-mul-add, mul-add-lt, div-below, mod-below, mul-le}
-use Rattle.std.proofs.shelf.Tests.{cases-lt, both-ways, ltb-true, lt-ltb, leb-true, le-leb, eq-eqb, ne-eqb, cond-true, cond-false, and-from, and-parts}
+use Rattle.std.proofs.shelf.Tests.{cases-lt, both-ways, ltb-true, lt-ltb, leb-true, eq-eqb, ne-eqb, cond-true, cond-false, and-from, and-parts}
 use Rattle.std.specs.declared.option.Option.{Option}
 use Rattle.std.specs.declared.option.Option.the-variants.{Some, None}
 use Rattle.std.specs.declared.result.Result.{Result}
 use Rattle.std.specs.declared.result.Result.the-variants.{Ok, Err}
 use Rattle.fabric.specs.Fabrics.{Lawful, labelWith}
-use Rattle.fabric.specs.Options.{allowed, each}
-use Rattle.fabric.specs.Placed.{BySteps}
+use Rattle.fabric.specs.Options.{each}
+use Rattle.fabric.specs.Steps.{BySteps}
 use Rattle.fabric.specs.Snake.{Shape, shapeOf, Place, inside, turned, labelAt, labelOf, placeAt, placeOf, Placed, beside, meshNear, addressAt, placeWith, meshAddresses}
 use Rattle.fabric.proofs.Coding.{label-found, label-none}
-use Rattle.fabric.proofs.Optional.{nothing, same, allowed-is}
-use Rattle.fabric.proofs.Placing.{Placing, placed-lawful, near-as}
+use Rattle.fabric.proofs.Optional.{nothing, same, allowed-is, with-law}
+use Rattle.fabric.proofs.Placing.{Placing, placed-lawful, placed-by-steps}
 
 pub narrow : (rows columns : ℕ) → Shape rows columns → (rows ≤ 128) × (columns ≤ 128)
 narrow r c h = (omega (arith, mul-le r 1 r c (omega arith) (h .1)), omega (arith, mul-le 1 c r c (h .0) (omega arith)))
 
--- whether the numbers are a mesh's
-pub shaped : (rows columns : ℕ) → Shape rows columns → Ok (rows, columns) ≡ shapeOf rows columns
-shaped r c h = sym (cond-true (leb 1 r && leb 1 c && leb (r * c) 128) (Ok (r, c)) (Err 1) (and-from _ _ (and-from _ _ (le-leb 1 r (h .0)) (le-leb 1 c (h .1))) (le-leb (r * c) 128 (h .2))))
-
+-- numbers that are no mesh's
 pub shapeless : (rows columns : ℕ) → (Shape rows columns → ⊥) → Err 1 ≡ shapeOf rows columns
 shapeless r c out = go (leb 1 r && leb 1 c && leb (r * c) 128) refl
   where
@@ -198,10 +195,10 @@ module _ (rows n : ℕ) where
     )
 
     pub place-as : (k : ℕ) (r : Option Place) → r ≡ placeOf rows n k → record { is : r ≡ placeOf rows n k; law : Placed rows n k r }
-    place-as k r e = record { is = e; law = subst (Placed rows n k) (sym e) (place-law k) }
+    place-as k = with-law (Placed rows n k) _ (place-law k)
 
     pub mesh-near-as : (k p : ℕ) (r : Option ℕ) → r ≡ meshNear rows n k p → record { is : r ≡ meshNear rows n k p; law : BySteps (rows * n) (placeAt n) (beside rows n) k p r }
-    mesh-near-as = near-as In (rows * n) (placeAt n) (labelAt n) (beside rows n) mesh-placing
+    mesh-near-as k p = with-law (BySteps (rows * n) (placeAt n) (beside rows n) k p) _ (placed-by-steps In (rows * n) (placeAt n) (labelAt n) (beside rows n) mesh-placing k p)
 
     -- a neighbour, found by its place
     pub near-at : (k p : ℕ) (a b : Place) → Some a ≡ placeOf rows n k → Some b ≡ beside rows n a p → labelOf rows n b ≡ meshNear rows n k p

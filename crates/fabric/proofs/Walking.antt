@@ -2,10 +2,11 @@
 use mathlib.Core.Path.{_≡_, refl, sym, ap, subst, _∙_}
 use mathlib.Core.Bool.{true}
 use mathlib.Core.Logic.{⊎-elim}
-use mathlib.Core.List.{List, [], _∷_}
-use Prim.Native.Nat.{ℕ, zero, suc, _≤_, _<_}
+use mathlib.Core.List.{List, [], _∷_, _++_, append-assoc, append-nil}
+use Prim.Native.Nat.{ℕ, zero, suc, _+_, _≤_, _<_}
 use native.Mathlib.Omega.{arith}
-use lib.ListN.{length}
+use lib.ListN.{length, take, set, length-set}
+use Rattle.std.proofs.shelf.Lists.{take-more-set}
 use Rattle.std.proofs.shelf.Tests.{cond-true, cases-eq}
 use Rattle.std.specs.declared.option.Option.{Option}
 use Rattle.std.specs.declared.option.Option.the-variants.{Some, None}
@@ -13,7 +14,7 @@ use Rattle.fabric.specs.Fabrics.{Near, Lawful}
 use Rattle.fabric.specs.Hop.{distance, exist, hopOf}
 use Rattle.fabric.specs.Options.{allowed}
 use Rattle.fabric.specs.Way.{led, leads, hopsOf, wayOf, lengthOf, ByHops, Travelled, Measured}
-use Rattle.fabric.proofs.Optional.{nothing, allowed-is}
+use Rattle.fabric.proofs.Optional.{nothing, allowed-is, with-law}
 use Rattle.fabric.proofs.Hopping.{hop-law, hop-onward, hop-nearer, no-hop, exist-true, true-exist}
 
 module _ (nodes : ℕ) (near : Near) (law : Lawful nodes near) (v : ℕ) (aim : v < nodes) where
@@ -21,7 +22,7 @@ module _ (nodes : ℕ) (near : Near) (law : Lawful nodes near) (v : ℕ) (aim : 
   hop x = hopOf nodes near x v
 
   -- one hop leads to a label that exists and is nearer
-  pub nearer : (u w : ℕ) → hop u ≡ Some w → (w < nodes) × (distance w v < distance u v)
+  nearer : (u w : ℕ) → hop u ≡ Some w → (w < nodes) × (distance w v < distance u v)
   nearer u w e = (hop-onward nodes near law u v w e .0, hop-nearer nodes near law u v w e)
 
   -- where there is no hop from a label that exists, it is the target
@@ -44,24 +45,15 @@ module _ (nodes : ℕ) (near : Near) (law : Lawful nodes near) (v : ℕ) (aim : 
   hops-at k u h l = alike nodes k u h (omega arith) l
 
   -- the hops from where there is none, and from where there is one
-  pub hops-stay : (u : ℕ) → u < nodes → hop u ≡ None → hopsOf nodes near u v ≡ []
+  hops-stay : (u : ℕ) → u < nodes → hop u ≡ None → hopsOf nodes near u v ≡ []
   hops-stay u h e = hops-at (suc (distance u v)) u h (omega arith) ∙ ap (led (leads (distance u v) hop)) e
 
-  pub hops-on : (u w : ℕ) → u < nodes → hop u ≡ Some w → hopsOf nodes near u v ≡ w ∷ hopsOf nodes near w v
+  hops-on : (u w : ℕ) → u < nodes → hop u ≡ Some w → hopsOf nodes near u v ≡ w ∷ hopsOf nodes near w v
   hops-on u w h e =
       let s = nearer u w e in
       hops-at (suc (distance u v)) u h (omega arith)
       ∙ ap (led (leads (distance u v) hop)) e
       ∙ ap (λ ws. w ∷ ws) (sym (hops-at (distance u v) w (s .0) (s .1)))
-
-  -- a turn of a loop that hops on: the next label exists and is nearer, and the hops to come are one fewer
-  pub record Turn (at next : ℕ) : Type 0 where
-    pub exists : next < nodes
-    pub less : distance next v < distance at v
-    pub on : hopsOf nodes near at v ≡ next ∷ hopsOf nodes near next v
-
-  pub turn : (at next : ℕ) → at < nodes → Some next ≡ hop at → Turn at next
-  turn at next h e = let s = nearer at next (sym e) in record { exists = s .0; less = s .1; on = hops-on at next h (sym e) }
 
   -- hops lead to the target, in no more of them than the labels are apart
   abbrev Leads : ℕ → List ℕ → Type 0
@@ -78,12 +70,12 @@ module _ (nodes : ℕ) (near : Near) (law : Lawful nodes near) (v : ℕ) (aim : 
   leads-there zero u h l = absurd (let z : ⊥ = omega arith in z)
   leads-there (suc k) u h l = leads-on k u h (leads-there k) l (hop u) refl
 
-  pub hops-lead : (u : ℕ) → u < nodes → Leads u (hopsOf nodes near u v)
+  hops-lead : (u : ℕ) → u < nodes → Leads u (hopsOf nodes near u v)
   unfolding hopsOf
   hops-lead u h = leads-there nodes u h (omega arith)
 
   -- and no other labels do
-  pub hops-alone : (u : ℕ) (ws : List ℕ) → u < nodes → ByHops (hopOf nodes near) u v ws → hopsOf nodes near u v ≡ ws
+  hops-alone : (u : ℕ) (ws : List ℕ) → u < nodes → ByHops (hopOf nodes near) u v ws → hopsOf nodes near u v ≡ ws
   hops-alone u [] h b = hops-stay u h (no-hop nodes near law u v (λ _ _ ne. ne b) (hop u) refl)
   hops-alone u (w ∷ ws) h b = hops-on u w h (b .0) ∙ ap (λ xs. w ∷ xs) (hops-alone w ws (nearer u w (b .0) .0) (b .1))
 
@@ -115,13 +107,73 @@ module _ (nodes : ℕ) (near : Near) (law : Lawful nodes near) (u v : ℕ) where
     only = λ k e. let x = known nodes u v (length (hopsOf nodes near u v)) k e in (x .0, x .1);
   }
 
-  -- what the code answers for labels that exist
-  pub way-as : (ws : List ℕ) → exist nodes u v ≡ true → ws ≡ u ∷ hopsOf nodes near u v → record { is : Some ws ≡ wayOf nodes near u v; law : Travelled nodes near u v (Some ws) }
-  way-as ws h e =
-      let is : Some ws ≡ wayOf nodes near u v = ap Some e ∙ sym (cond-true (exist nodes u v) _ None h) in
-      record { is = is; law = subst (λ x. Travelled nodes near u v x) (sym is) way-law }
+  -- what the code owes of a path, from its labels and the number of its hops
+  pub walked-as : (ws : List ℕ) (k : ℕ) → exist nodes u v ≡ true → ws ≡ u ∷ hopsOf nodes near u v → k ≡ length (hopsOf nodes near u v) → record { is : Some ws ≡ wayOf nodes near u v; law : Travelled nodes near u v (Some ws); hops : Some k ≡ lengthOf nodes near u v; measured : Measured nodes near u v (Some k) }
+  walked-as ws k h e f =
+      let way = with-law (Travelled nodes near u v) _ way-law (Some ws) (ap Some e ∙ sym (cond-true (exist nodes u v) _ None h)) in
+      let long = with-law (Measured nodes near u v) _ length-law (Some k) (ap Some f ∙ sym (cond-true (exist nodes u v) _ None h)) in
+      record { is = way .is; law = way .law; hops = long .is; measured = long .law }
 
-  pub length-as : (k : ℕ) → exist nodes u v ≡ true → k ≡ length (hopsOf nodes near u v) → record { is : Some k ≡ lengthOf nodes near u v; law : Measured nodes near u v (Some k) }
-  length-as k h e =
-      let is : Some k ≡ lengthOf nodes near u v = ap Some e ∙ sym (cond-true (exist nodes u v) _ None h) in
-      record { is = is; law = subst (λ x. Measured nodes near u v x) (sym is) length-law }
+-- The loop of a walk: the labels and hops so far, and those still to come, make the whole way.
+pub record Walked (nodes : ℕ) (near : Near) (u v at hops : ℕ) (labels : List ℕ) : Type 0 where
+  pub here : at < nodes
+  pub room : length labels ≡ 128
+  pub count : hops + length (hopsOf nodes near at v) ≡ length (hopsOf nodes near u v)
+  pub whole : take (hops + 1) labels ++ hopsOf nodes near at v ≡ u ∷ hopsOf nodes near u v
+
+-- A turn of it: there is room for the next label, which is nearer to the target, and with it the walk goes on.
+pub record Turn (nodes : ℕ) (near : Near) (u v at hops : ℕ) (labels : List ℕ) (next : ℕ) : Type 0 where
+  pub free : hops + 1 < 128
+  pub less : distance next v < distance at v
+  pub further : Walked nodes near u v next (hops + 1) (set labels (hops + 1) next)
+
+module _ (nodes : ℕ) (near : Near) (law : Lawful nodes near) (u v : ℕ) (known : exist nodes u v ≡ true) (at hops : ℕ) (labels : List ℕ) (so-far : Walked nodes near u v at hops labels) where
+  start : u < nodes
+  start = true-exist nodes u v known .0
+
+  aim : v < nodes
+  aim = true-exist nodes u v known .1
+
+  -- a way has at most 127 hops
+  pub walked-short : hops ≤ 127
+  walked-short =
+      let few = law .bounded in
+      let long = hops-lead nodes near law v aim u start .1 in
+      omega (arith, so-far .count, start, aim)
+
+  module _ (next : ℕ) (e : Some next ≡ hopOf nodes near at v) where
+    on : hopsOf nodes near at v ≡ next ∷ hopsOf nodes near next v
+    on = hops-on nodes near law v aim at next (so-far .here) (sym e)
+
+    free : hops + 1 < 128
+    free =
+        let few = law .bounded in
+        let long = hops-lead nodes near law v aim u start .1 in
+        omega (arith, so-far .count, start, aim, ap length on)
+
+    further : Walked nodes near u v next (hops + 1) (set labels (hops + 1) next)
+    further =
+        let room : hops + 1 < length labels = omega (arith, free, so-far .room) in
+        record {
+          here = nearer nodes near law v aim at next (sym e) .0;
+          room = length-set labels (hops + 1) next ∙ so-far .room;
+          count = omega (arith, so-far .count, ap length on);
+          whole =
+              ap (λ xs. xs ++ hopsOf nodes near next v) (take-more-set labels (hops + 1) next room)
+              ∙ append-assoc (take (hops + 1) labels) (next ∷ []) (hopsOf nodes near next v)
+              ∙ ap (λ xs. take (hops + 1) labels ++ xs) (sym on)
+              ∙ so-far .whole;
+        }
+
+    pub walked-on : Turn nodes near u v at hops labels next
+    walked-on = record { free = free; less = nearer nodes near law v aim at next (sym e) .1; further = further }
+
+  module _ (e : None ≡ hopOf nodes near at v) where
+    done : hopsOf nodes near at v ≡ []
+    done = hops-stay nodes near law v aim at (so-far .here) (sym e)
+
+    pub walked-labels : take (hops + 1) labels ≡ u ∷ hopsOf nodes near u v
+    walked-labels = sym (append-nil (take (hops + 1) labels)) ∙ ap (λ xs. take (hops + 1) labels ++ xs) (sym done) ∙ so-far .whole
+
+    pub walked-hops : hops ≡ length (hopsOf nodes near u v)
+    walked-hops = omega (arith, so-far .count, ap length done)

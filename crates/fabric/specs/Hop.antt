@@ -24,13 +24,15 @@ exist nodes u v = ltb u nodes && ltb v nodes
 abbrev pub onward : ℕ → ℕ → ℕ → Bool
 onward u v w = (ltb u w && leb w v) || (leb v w && ltb w u)
 
--- what a port leads to, if anything, as an entry to pick from: eligible where it lies onward, and better the nearer to the target
+-- a port is eligible where it leads onward
 abbrev pub leads-onward : Exit → Bool
 leads-onward e = elim (e .neighbour) [ Some w ↦ onward (e .from) (e .towards) w | None ↦ false ]
 
+-- and ranks by how many labels it is short of the target
 abbrev pub labels-short : Exit → ℕ
 labels-short e = elim (e .neighbour) [ Some w ↦ distance w (e .towards) | None ↦ 0 ]
 
+-- port p of u, for a message to v
 abbrev pub exitOf : Near → ℕ → ℕ → ℕ → Exit
 exitOf near u v p = record { from = u; towards = v; neighbour = near u p }
 
@@ -38,10 +40,12 @@ exitOf near u v p = record { from = u; towards = v; neighbour = near u p }
 abbrev pub exitsOf : Near → ℕ → ℕ → List Exit
 exitsOf near u v = map (exitOf near u v) (counting 0 8)
 
+-- where the picked port leads
 abbrev pub end : Option Exit → Option ℕ
 end None = None
 end (Some e) = e .neighbour
 
+-- the hop from u towards v
 unfoldable pub hopOf : ℕ → Near → ℕ → ℕ → Option ℕ
 hopOf nodes near u v = cond (exist nodes u v) (end (picked leads-onward labels-short (exitsOf near u v))) None
 

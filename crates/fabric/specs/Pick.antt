@@ -15,6 +15,7 @@ better rank None b = b
 better rank (Some x) None = Some x
 better rank (Some x) (Some y) = cond (leb (rank x) (rank y)) (Some x) (Some y)
 
+-- the best of a list: its first entry, if eligible, or the best of the others
 abbrev pub picked : {A : Type 0} → (A → Bool) → (A → ℕ) → List A → Option A
 picked eligible rank [] = None
 picked eligible rank (x ∷ xs) = better rank (allowed (eligible x) x) (picked eligible rank xs)

@@ -3,7 +3,7 @@ use mathlib.Core.Path.{_≡_}
 use mathlib.Core.List.{List}
 use mathlib.Core.Logic.{_↔_}
 use mathlib.Core.Bool.{Bool, _&&_, cond}
-use Prim.Native.Nat.{ℕ, zero, suc, _+_, _-_, _*_, _/_, _%_, _≤_, _<_}
+use Prim.Native.Nat.{ℕ, zero, suc, _+_, _-_, _*_, _/_, _%_, _≤_}
 use lib.Dec.{eqb, leb, ltb}
 use Rattle.std.specs.declared.option.Option.{Option}
 use Rattle.std.specs.declared.option.Option.the-variants.{Some, None}
@@ -11,7 +11,7 @@ use Rattle.std.specs.declared.result.Result.{Result}
 use Rattle.std.specs.declared.result.Result.the-variants.{Ok, Err}
 use Rattle.fabric.specs.Fabrics.{Near}
 use Rattle.fabric.specs.Options.{allowed}
-use Rattle.fabric.specs.Placed.{via, codes}
+use Rattle.fabric.specs.Steps.{via, codes}
 
 -- at least a row and a column, and at most 128 places
 abbrev pub Shape : ℕ → ℕ → Type 0
@@ -25,6 +25,7 @@ shapeOf rows columns = cond (leb 1 rows && leb 1 columns && leb (rows * columns)
 abbrev pub Place : Type 0
 Place = ℕ × ℕ
 
+-- a place of the mesh
 abbrev pub inside : ℕ → ℕ → Place → Bool
 inside rows columns a = ltb (a .0) columns && ltb (a .1) rows
 
@@ -32,15 +33,19 @@ inside rows columns a = ltb (a .0) columns && ltb (a .1) rows
 abbrev pub turned : ℕ → ℕ → ℕ → ℕ
 turned columns y x = cond (eqb (y % 2) 0) x (columns - x - 1)
 
+-- the label of a place: the places of the rows before its own, and those before it in its row
 abbrev pub labelAt : ℕ → Place → ℕ
 labelAt columns a = a .1 * columns + turned columns (a .1) (a .0)
 
+-- and none off the mesh
 abbrev pub labelOf : ℕ → ℕ → Place → Option ℕ
 labelOf rows columns a = allowed (inside rows columns a) (labelAt columns a)
 
+-- the place of a label: the row by division, and the column by what is left over
 abbrev pub placeAt : ℕ → ℕ → Place
 placeAt columns k = (turned columns (k / columns) (k % columns), k / columns)
 
+-- and none for a label that does not exist
 abbrev pub placeOf : ℕ → ℕ → ℕ → Option Place
 placeOf rows columns k = allowed (ltb k (rows * columns)) (placeAt columns k)
 
@@ -56,15 +61,17 @@ beside rows columns a (suc (suc zero)) = allowed (ltb (a .1 + 1) rows) (a .0, a 
 beside rows columns a (suc (suc (suc zero))) = allowed (ltb 0 (a .1)) (a .0, a .1 - 1)
 beside rows columns a (suc (suc (suc (suc p)))) = None
 
+-- the neighbour through a port is the label of the place that the port leads to
 abbrev pub meshNear : ℕ → ℕ → Near
 meshNear rows columns = via (rows * columns) (placeAt columns) (labelAt columns) (beside rows columns)
 
+-- the address of a place, and those of all labels in turn
 abbrev pub addressAt : Place → ℕ
 addressAt a = 256 * a .1 + a .0
+
+abbrev pub meshAddresses : ℕ → ℕ → List ℕ
+meshAddresses rows columns = codes (rows * columns) (placeAt columns) addressAt
 
 -- the place that has an address on some mesh
 abbrev pub placeWith : ℕ → Option Place
 placeWith x = allowed (ltb x 65536) (x % 256, x / 256)
-
-abbrev pub meshAddresses : ℕ → ℕ → List ℕ
-meshAddresses rows columns = codes (rows * columns) (placeAt columns) addressAt

@@ -1,13 +1,14 @@
 -- The way from a label to another hop by hop, and its length.
 use mathlib.Core.Path.{_≡_}
 use mathlib.Core.List.{List, [], _∷_}
-use Prim.Native.Nat.{ℕ, zero, suc, _≤_, _<_}
-use lib.ListN.{length}
+use Prim.Native.Nat.{ℕ, zero, suc, _+_, _≤_, _<_}
+use lib.ListN.{length, take}
 use Rattle.std.specs.declared.option.Option.{Option}
 use Rattle.std.specs.declared.option.Option.the-variants.{Some, None}
 use Rattle.fabric.specs.Fabrics.{Near}
 use Rattle.fabric.specs.Hop.{distance, exist, hopOf}
 use Rattle.fabric.specs.Options.{allowed}
+use Rattle.fabric.specs.declared.paths.Path.{Path}
 
 -- where a hop leads, and where the next ones lead from there
 abbrev pub led : (ℕ → List ℕ) → Option ℕ → List ℕ
@@ -29,6 +30,13 @@ wayOf nodes near u v = allowed (exist nodes u v) (u ∷ hopsOf nodes near u v)
 
 abbrev pub lengthOf : ℕ → Near → ℕ → ℕ → Option ℕ
 lengthOf nodes near u v = allowed (exist nodes u v) (length (hopsOf nodes near u v))
+
+-- what a path holds
+abbrev pub hopsIn : Path → ℕ
+hopsIn p = p .hops
+
+abbrev pub labelsOf : Path → List ℕ
+labelsOf p = take (p .hops + 1) (p .labels)
 
 -- In plain terms: each label is the hop from the one before it towards v, and the last is v.
 abbrev pub ByHops : (ℕ → ℕ → Option ℕ) → ℕ → ℕ → List ℕ → Type 0

@@ -33,7 +33,7 @@ impl Ranked for Exit as ExitRanked {
     }
 }
 
-/// Whether both labels are of nodes.
+// Whether both labels exist.
 pub(crate) fn both_exist<F: Fabric>(fabric: &F, u: u8, v: u8) -> bool
     ensures { λ r. ⌜ r ≡ exist (F·Fabric .nodes (now (fabric .entry))) u v ⌝ }
 {
@@ -41,7 +41,7 @@ pub(crate) fn both_exist<F: Fabric>(fabric: &F, u: u8, v: u8) -> bool
     u < size && v < size
 }
 
-// The ports of a node.
+// The eight ports of a node.
 fn exits<F: Fabric>(fabric: &F, from: u8, towards: u8) -> [Exit; 8]
     ensures { λ r. ⌜ r ≡ exitsOf (F·Fabric .near (now (fabric .entry))) from towards ⌝ }
 {
@@ -61,7 +61,8 @@ fn exits<F: Fabric>(fabric: &F, from: u8, towards: u8) -> [Exit; 8]
     exits
 }
 
-/// The farthest neighbour of `from` on the way to `towards` that is not past it.
+/// The neighbour of greatest label above `from` and not above `towards`, or of least label below and not below.
+/// There is none where the labels are equal or one of them does not exist.
 pub fn hop<F: Fabric>(fabric: &F, from: u8, towards: u8) -> Option<u8>
     ensures is { λ r. ⌜ r ≡ hopOf (F·Fabric .nodes (now (fabric .entry))) (F·Fabric .near (now (fabric .entry))) from towards ⌝ }
     ensures law { λ r. ⌜ Hopped (F·Fabric .nodes (now (fabric .entry))) (F·Fabric .near (now (fabric .entry))) from towards r ⌝ }

@@ -1,7 +1,7 @@
 //! The mesh with the snake labelling.
 ghost use mathlib.Core.Path.{_≡_};
 ghost use Prim.Native.Nat.{_*_, _<_};
-ghost use Rattle.fabric.specs.Placed.{BySteps};
+ghost use Rattle.fabric.specs.Steps.{BySteps};
 ghost use Rattle.fabric.specs.Refusals.{told};
 ghost use Rattle.fabric.specs.Snake.{Shape, shapeOf, turned, labelOf, placeAt, placeOf, Placed, beside, meshNear, addressAt, placeWith, meshAddresses};
 use crate::refusals::Refusal;
@@ -40,7 +40,7 @@ impl Mesh {
         (self.rows, self.columns)
     }
 
-    /// The label of a place.
+    /// The label of a place, or none where it is not on the mesh.
     pub fn label_at(&self, place: (u8, u8)) -> Option<u8>
         ensures { λ r. ⌜ r ≡ labelOf (now (self .entry) .rows) (now (self .entry) .columns) place ⌝ }
     {
@@ -52,7 +52,7 @@ impl Mesh {
         }
     }
 
-    /// The place of a label.
+    /// The place of a label, or none where the label does not exist.
     pub fn place_of(&self, label: u8) -> Option<(u8, u8)>
         ensures is { λ r. ⌜ r ≡ placeOf (now (self .entry) .rows) (now (self .entry) .columns) label ⌝ }
         ensures law { λ r. ⌜ Placed (now (self .entry) .rows) (now (self .entry) .columns) label r ⌝ }
@@ -64,6 +64,7 @@ impl Mesh {
         }
     }
 
+    // The place of a label that exists.
     fn place_at(&self, label: u8) -> (u8, u8)
         ensures { λ r. ⌜ r ≡ placeAt (now (self .entry) .columns) label ⌝ }
     {
@@ -113,6 +114,7 @@ pub impl Fabric for Mesh as MeshFabric {
     }
 }
 
+// The address of a place.
 fn address_at(place: (u8, u8)) -> u32
     ensures { λ r. ⌜ r ≡ addressAt place ⌝ }
 {

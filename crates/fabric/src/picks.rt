@@ -23,18 +23,12 @@ fn lesser<T: Ranked + Copy>(best: Option<T>, entry: T) -> Option<T>
     ensures { λ r. ⌜ r ≡ better (T·Ranked .rank) best (Some entry) ⌝ }
 {
     match best {
-        Some(b) => {
-            if b.rank() <= entry.rank() {
-                Some(b)
-            } else {
-                Some(entry)
-            }
-        }
-        None => Some(entry),
+        Some(b) if b.rank() <= entry.rank() => Some(b),
+        _ => Some(entry),
     }
 }
 
-/// The eligible entry of least rank, the earliest on a tie.
+/// The eligible entry of least rank, the earliest on a tie, or none where none is eligible.
 pub fn pick<T: Ranked + Copy>(entries: &[T]) -> Option<T>
     ensures is { λ r. ⌜ r ≡ picked (T·Ranked .eligible) (T·Ranked .rank) (now (entries .entry)) ⌝ }
     ensures law { λ r. ⌜ Picked (T·Ranked .eligible) (T·Ranked .rank) (now (entries .entry)) r ⌝ }

@@ -1,9 +1,10 @@
-//! Why a fabric is not built or changed: one case for each question that was answered no.
+//! Why a call refuses to do what it is asked.
 ghost use mathlib.Core.Path.{_≡_};
 ghost use Rattle.fabric.specs.Refusals.{numberOf};
 use std::fmt;
 
-#[derive(Clone, Copy, PartialEq, Eq, Debug)]
+/// One case for each reason to refuse, each with a number of its own.
+#[derive(Clone, Copy, Debug)]
 pub enum Refusal {
     /// Rows or columns are 0, or their product exceeds 128.
     MeshSize,

@@ -6,7 +6,7 @@ ghost use lib.ListN.{length};
 ghost use Rattle.std.specs.Finite.{nth};
 ghost use Rattle.fabric.specs.Fabrics.{Near, Lawful, AllDifferent, AllFit, labelWith, Located};
 
-/// Nodes labelled from 0 without gaps, each with ports 0 to 7 that lead to neighbours.
+/// From 1 to 128 nodes, labelled from 0 without gaps, each with ports 0 to 7 that may lead to neighbours.
 /// Its meaning is the number of nodes and the answers for each label and port.
 pub trait Fabric {
     ghost nodes: { Self → ℕ };
@@ -19,7 +19,7 @@ pub trait Fabric {
     fn size(&self) -> u8
         ensures { λ r. ⌜ r ≡ nodes (now (self .entry)) ⌝ };
 
-    /// The label that a port of a node leads to.
+    /// The label that a port leads to, or none; none too where the label or the port does not exist.
     fn neighbour(&self, label: u8, port: u8) -> Option<u8>
         ensures { λ r. ⌜ r ≡ near (now (self .entry)) label port ⌝ };
 }
@@ -33,12 +33,12 @@ pub trait Addressed: Fabric {
 
     law fit: { (f : Self) → AllFit (addresses f) };
 
-    /// The address of a label.
+    /// The address of a label, or none where it does not exist.
     fn address(&self, label: u8) -> Option<u32>
         ensures is { λ r. ⌜ r ≡ nth (addresses (now (self .entry))) label ⌝ }
         ensures long { λ _. ⌜ length (addresses (now (self .entry))) ≡ Self·Fabric .nodes (now (self .entry)) ⌝ };
 
-    /// The label of an address.
+    /// The label that has an address, or none where none has it.
     fn label_of(&self, address: u32) -> Option<u8>
         ensures is { λ r. ⌜ r ≡ labelWith (addresses (now (self .entry))) address ⌝ }
         ensures law { λ r. ⌜ Located (addresses (now (self .entry))) address r ⌝ }

@@ -1,51 +1,47 @@
 //! The way from a node to another hop by hop, and its length, on any fabric.
 ghost use mathlib.Core.Path.{_≡_};
-ghost use Rattle.std.specs.Of.Vec.{vec-items};
-ghost use Rattle.std.specs.Vec.{made};
 ghost use Rattle.fabric.specs.Options.{each};
-ghost use Rattle.fabric.specs.Way.{wayOf, Travelled, lengthOf, Measured};
+ghost use Rattle.fabric.specs.Way.{labelsOf, hopsIn, wayOf, Travelled, lengthOf, Measured};
 use crate::hops::both_exist;
 use crate::hops::hop;
+use crate::paths::Path;
 use crate::traits::Fabric;
-use std::alloc::AllocError;
-use std::alloc::Global;
 
-/// The number of hops from a node to another.
-pub fn length<F: Fabric>(fabric: &F, from: u8, to: u8) -> Option<u8>
-    ensures is { λ r. ⌜ r ≡ lengthOf (F·Fabric .nodes (now (fabric .entry))) (F·Fabric .near (now (fabric .entry))) from to ⌝ }
-    ensures law { λ r. ⌜ Measured (F·Fabric .nodes (now (fabric .entry))) (F·Fabric .near (now (fabric .entry))) from to r ⌝ }
+impl Path {
+    /// The labels, from the first to the last.
+    pub fn labels(&self) -> &[u8]
+        ensures { λ r. ⌜ now r ≡ labelsOf (now (self .entry)) ⌝ }
+    {
+        &self.labels[0..self.hops as usize + 1]
+    }
+}
+
+/// The labels on the way from a node to another, or none where one of them does not exist.
+pub fn way<F: Fabric>(fabric: &F, from: u8, to: u8) -> Option<Path>
+    ensures is { λ r. ⌜ each labelsOf r ≡ wayOf (F·Fabric .nodes (now (fabric .entry))) (F·Fabric .near (now (fabric .entry))) from to ⌝ }
+    ensures law { λ r. ⌜ Travelled (F·Fabric .nodes (now (fabric .entry))) (F·Fabric .near (now (fabric .entry))) from to (each labelsOf r) ⌝ }
+    ensures hops { λ r. ⌜ each hopsIn r ≡ lengthOf (F·Fabric .nodes (now (fabric .entry))) (F·Fabric .near (now (fabric .entry))) from to ⌝ }
+    ensures measured { λ r. ⌜ Measured (F·Fabric .nodes (now (fabric .entry))) (F·Fabric .near (now (fabric .entry))) from to (each hopsIn r) ⌝ }
 {
     if !both_exist(fabric, from, to) {
         return None;
     }
-    let mut at = from;
+    let mut labels = [0; 128];
+    labels[0] = from;
     let mut hops = 0;
+    let mut at = from;
     while let Some(next) = hop(fabric, at, to) {
-        at = next;
         hops += 1;
+        labels[hops as usize] = next;
+        at = next;
     }
-    Some(hops)
+    Some(Path { labels, hops })
 }
 
-/// The labels on the way from a node to another, both ends included.
-pub fn way<F: Fabric>(
-    heap: Global,
-    fabric: &F,
-    from: u8,
-    to: u8,
-) -> Result<Option<Vec<u8>>, AllocError>
-    ensures is { λ r. ⌜ made r (λ w. each vec-items w ≡ wayOf (F·Fabric .nodes (now (fabric .entry))) (F·Fabric .near (now (fabric .entry))) from to) ⌝ }
-    ensures law { λ r. ⌜ made r (λ w. Travelled (F·Fabric .nodes (now (fabric .entry))) (F·Fabric .near (now (fabric .entry))) from to (each vec-items w)) ⌝ }
+/// The number of hops from a node to another, or none where one of them does not exist.
+pub fn length<F: Fabric>(fabric: &F, from: u8, to: u8) -> Option<u8>
+    ensures is { λ r. ⌜ r ≡ lengthOf (F·Fabric .nodes (now (fabric .entry))) (F·Fabric .near (now (fabric .entry))) from to ⌝ }
+    ensures law { λ r. ⌜ Measured (F·Fabric .nodes (now (fabric .entry))) (F·Fabric .near (now (fabric .entry))) from to r ⌝ }
 {
-    if !both_exist(fabric, from, to) {
-        return Ok(None);
-    }
-    let mut labels = Vec::new(heap);
-    labels.push(from)?;
-    let mut at = from;
-    while let Some(next) = hop(fabric, at, to) {
-        labels.push(next)?;
-        at = next;
-    }
-    Ok(Some(labels))
+    Some(way(fabric, from, to)?.hops)
 }

@@ -29,15 +29,22 @@ fn hops_go_as_far_as_they_may() -> Result<(), Fail> {
     Ok(())
 }
 
+fn check_way(mesh: &Mesh, from: u8, to: u8, labels: &[u8]) -> Result<(), Fail> {
+    match way(mesh, from, to) {
+        Some(path) => check_eq(path.labels(), labels),
+        None => check(false).note("no way"),
+    }
+}
+
 #[test]
-fn way_is_told_label_by_label(rt: LibcRuntime) -> Result<(), Fail> {
+fn way_is_told_label_by_label() -> Result<(), Fail> {
     let mesh = Mesh::new(4, 4)?;
-    let there = way(rt.alloc(), &mesh, 6, 13)?.ok_or("no way")?;
-    check_eq(there.as_slice(), [6, 9, 10, 13].as_slice())?;
-    let stay = way(rt.alloc(), &mesh, 5, 5)?.ok_or("no way")?;
-    check_eq(stay.as_slice(), [5].as_slice())?;
-    check(way(rt.alloc(), &mesh, 5, 16)?.is_none())?;
-    check(way(rt.alloc(), &mesh, 16, 5)?.is_none())
+    check_way(&mesh, 6, 13, &[6, 9, 10, 13])?;
+    check_way(&mesh, 13, 6, &[13, 10, 9, 6])?;
+    check_way(&mesh, 5, 5, &[5])?;
+    check_way(&Mesh::new(2, 3)?, 0, 4, &[0, 1, 4])?;
+    check(way(&mesh, 5, 16).is_none())?;
+    check(way(&mesh, 16, 5).is_none())
 }
 
 #[test]

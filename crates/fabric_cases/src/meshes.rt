@@ -4,7 +4,6 @@ use fabric::Fabric;
 use fabric::Mesh;
 use fabric::MeshAddressed;
 use fabric::MeshFabric;
-use fabric::Refusal;
 use fabric::RefusalDebug;
 use std::test::*;
 

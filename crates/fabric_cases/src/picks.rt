@@ -3,18 +3,18 @@ use fabric::Ranked;
 use fabric::pick;
 use std::test::*;
 
-// An offer of goods: its price, whether it is in stock, and who makes it.
+// A quote for some goods: the price, whether they are in stock, and who makes them.
 #[derive(Clone, Copy, PartialEq, Eq, Debug)]
-struct Offer {
+struct Quote {
     price: u32,
     stocked: bool,
     maker: u8,
 }
 
-impl Ranked for Offer as OfferRanked {
-    ghost eligible = { λ o. o .stocked };
+impl Ranked for Quote as QuoteRanked {
+    ghost eligible = { λ q. q .stocked };
 
-    ghost rank = { λ o. o .price };
+    ghost rank = { λ q. q .price };
 
     fn eligible(&self) -> bool {
         self.stocked
@@ -25,8 +25,8 @@ impl Ranked for Offer as OfferRanked {
     }
 }
 
-fn at_price(price: u32, stocked: bool, maker: u8) -> Offer {
-    Offer {
+fn at_price(price: u32, stocked: bool, maker: u8) -> Quote {
+    Quote {
         price,
         stocked,
         maker,
@@ -35,28 +35,28 @@ fn at_price(price: u32, stocked: bool, maker: u8) -> Offer {
 
 #[test]
 fn picks_the_cheapest_in_stock() -> Result<(), Fail> {
-    let offers = [
+    let quotes = [
         at_price(5, true, 0),
         at_price(1, false, 1),
         at_price(3, true, 2),
         at_price(4, true, 3),
     ];
-    check_eq(pick(&offers), Some(at_price(3, true, 2)))
+    check_eq(pick(&quotes), Some(at_price(3, true, 2)))
 }
 
 #[test]
 fn picks_the_earliest_on_a_tie() -> Result<(), Fail> {
-    let offers = [
+    let quotes = [
         at_price(7, true, 0),
         at_price(2, true, 1),
         at_price(2, true, 2),
         at_price(7, true, 3),
     ];
-    check_eq(pick(&offers), Some(at_price(2, true, 1)))
+    check_eq(pick(&quotes), Some(at_price(2, true, 1)))
 }
 
 #[test]
 fn picks_none_where_none_is_eligible() -> Result<(), Fail> {
     check_eq(pick(&[at_price(1, false, 0), at_price(2, false, 1)]), None)?;
-    check_eq(pick::<OfferRanked>(&[]), None)
+    check_eq(pick::<QuoteRanked>(&[]), None)
 }

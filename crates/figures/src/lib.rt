@@ -4,7 +4,7 @@ ghost use Prim.Native.Nat.{_*_};
 ghost use Rattle.std.specs.declared.result.Result.the-variants.{Ok};
 ghost use Rattle.fabric.specs.Hop.{hopOf};
 ghost use Rattle.fabric.specs.Snake.{labelOf, meshNear};
-ghost use Rattle.figures.specs.Known.{onMesh, known};
+ghost use Rattle.figures.specs.Known.{onMesh, ruled, known};
 use fabric::Mesh;
 use fabric::MeshFabric;
 use fabric::Refusal;
@@ -31,7 +31,8 @@ fn hop_on(rows: u32, columns: u32, from: u8, towards: u8) -> Result<Option<u8>, 
 }
 
 fn hops() -> Result<[Option<u8>; 4], Refusal>
-    ensures { λ r. ⌜ r ≡ Ok (known .hops) ⌝ }
+    ensures rules { λ r. ⌜ r ≡ Ok (ruled .hops) ⌝ }
+    ensures values { λ r. ⌜ r ≡ Ok (known .hops) ⌝ }
 {
     Ok([
         hop_on(4, 4, 6, 13)?,
@@ -43,7 +44,8 @@ fn hops() -> Result<[Option<u8>; 4], Refusal>
 
 /// Every figure, by the calls of the libraries.
 pub fn work_out() -> Result<Figures, Refusal>
-    ensures { λ r. ⌜ r ≡ Ok known ⌝ }
+    ensures rules { λ r. ⌜ r ≡ Ok ruled ⌝ }
+    ensures values { λ r. ⌜ r ≡ Ok known ⌝ }
 {
     let labels = [
         label_on(3, 4, (3, 1))?,

@@ -8,15 +8,15 @@ use std::fmt;
 use std::io;
 
 #[derive(Debug, Drop)]
-pub enum Complaint {
-    /// The words are not those of a survey.
-    Usage,
+pub(crate) enum Complaint {
+    /// The words are not those that a survey takes.
+    Words,
     /// The word stands where a number is wanted.
     NotANumber(String),
     /// The library refuses to build the fabric.
     Refused(Refusal),
-    /// No node of the fabric has the label; the last label is the second number.
-    NoLabel(u32, u8),
+    /// No node of the fabric has the label.
+    NoLabel { label: u32, last: u8 },
     /// The memory does not suffice.
     Memory,
     /// The arguments cannot be read, or the text cannot be written.
@@ -26,7 +26,9 @@ pub enum Complaint {
 pub impl fmt::Display for Complaint as ComplaintDisplay {
     fn fmt<W: fmt::Write>(&self, f: &mut fmt::Formatter<W>) -> fmt::Result {
         match self {
-            Complaint::Usage => f.write_str("usage: survey mesh ROWS COLUMNS [way FROM TO]..."),
+            Complaint::Words => f.write_str(
+                "the words should be: mesh ROWS COLUMNS [way FROM TO]...",
+            ),
             Complaint::NotANumber(word) => write!(
                 f,
                 "'{word}' is not a number from 0 to 4294967295"
@@ -35,12 +37,15 @@ pub impl fmt::Display for Complaint as ComplaintDisplay {
                 let number = refusal.number();
                 write!(f, "refusal {number}: {refusal}")
             }
-            Complaint::NoLabel(label, last) => write!(
+            Complaint::NoLabel { label, last } => write!(
                 f,
                 "label {label} does not exist: the labels are 0 to {last}"
             ),
             Complaint::Memory => f.write_str("out of memory"),
-            Complaint::Io(error) => write!(f, "input or output failed: {error}"),
+            Complaint::Io(error) => write!(
+                f,
+                "the arguments cannot be read, or the text cannot be written: {error}"
+            ),
         }
     }
 }

@@ -48,7 +48,7 @@ mod tests {
         }
     }
 
-    const USAGE: &str = "usage: survey mesh ROWS COLUMNS [way FROM TO]...";
+    const WORDS: &str = "the words should be: mesh ROWS COLUMNS [way FROM TO]...";
 
     const SIZE: &str = "refusal 1: a mesh has at least 1 row and 1 column, and at most 128 nodes";
 
@@ -56,11 +56,11 @@ mod tests {
     fn complains_in_plain_words(rt: LibcRuntime) -> Result<(), Fail> {
         let heap = rt.alloc();
         let cases = [
-            ("", USAGE),
-            ("mesh 4", USAGE),
-            ("ring 4 4", USAGE),
-            ("mesh 4 4 way 6", USAGE),
-            ("mesh 4 4 path 6 13", USAGE),
+            ("", WORDS),
+            ("mesh 4", WORDS),
+            ("ring 4 4", WORDS),
+            ("mesh 4 4 way 6", WORDS),
+            ("mesh 4 4 path 6 13", WORDS),
             ("mesh four 4", "'four' is not a number from 0 to 4294967295"),
             ("mesh 4 -1", "'-1' is not a number from 0 to 4294967295"),
             (

@@ -10,21 +10,21 @@ use crate::requests::Request;
 use fabric::Fabric;
 use fabric::Mesh;
 use fabric::MeshFabric;
-use fabric::length;
 use fabric::way;
 use std::alloc::Global;
 use std::fmt::Write;
 
-// The labels row by row, each column four characters wide.
+// The size, then the labels row by row, each four characters wide.
 fn write_grid(text: &mut String, mesh: &Mesh) -> Result<(), Complaint> {
     let (rows, columns) = mesh.shape();
     let nodes = mesh.size();
     writeln!(text, "mesh: rows {rows}, columns {columns}, nodes {nodes}")?;
     for y in 0..rows {
         for x in 0..columns {
-            if let Some(label) = mesh.label_at((x, y)) {
-                write!(text, "{label:>4}")?;
-            }
+            let Some(label) = mesh.label_at((x, y)) else {
+                return unreachable();
+            };
+            write!(text, "{label:>4}")?;
         }
         text.push_str("\n")?;
     }
@@ -37,15 +37,17 @@ fn label<F: Fabric>(fabric: &F, number: u32) -> Result<u8, Complaint>
 {
     let size = fabric.size();
     if number < size as u32 {
-        Ok(number as u8)
-    } else {
-        Err(Complaint::NoLabel(number, size.saturating_sub(1)))
+        return Ok(number as u8);
     }
+    let last = size - 1;
+    Err(Complaint::NoLabel {
+        label: number,
+        last,
+    })
 }
 
-// A line for each hop.
+// The length, then a line for each hop.
 fn write_way<F: Fabric>(
-    heap: Global,
     text: &mut String,
     fabric: &F,
     from: u32,
@@ -53,25 +55,26 @@ fn write_way<F: Fabric>(
 ) -> Result<(), Complaint> {
     let from = label(fabric, from)?;
     let to = label(fabric, to)?;
-    if let Some(hops) = length(fabric, from, to) {
-        writeln!(text, "way from {from} to {to}: length {hops}")?;
-    }
-    if let Some(labels) = way(heap, fabric, from, to)? {
-        for hop in labels.windows(2) {
-            let (u, v) = (hop[0], hop[1]);
-            writeln!(text, "{u:>4} -> {v}")?;
-        }
+    let Some(path) = way(fabric, from, to) else {
+        return unreachable();
+    };
+    let hops = path.labels().windows(2);
+    let length = path.labels().windows(2).count();
+    writeln!(text, "way from {from} to {to}: length {length}")?;
+    for hop in hops {
+        let (u, v) = (hop[0], hop[1]);
+        writeln!(text, "{u:>4} -> {v}")?;
     }
     Ok(())
 }
 
 /// The grid of the mesh, and the ways on it.
-pub fn report(heap: Global, request: &Request) -> Result<String, Complaint> {
+pub(crate) fn report(heap: Global, request: &Request) -> Result<String, Complaint> {
     let mesh = Mesh::new(request.rows, request.columns)?;
     let mut text = String::new(heap);
     write_grid(&mut text, &mesh)?;
     for (from, to) in request.ways.iter() {
-        write_way(heap, &mut text, &mesh, *from, *to)?;
+        write_way(&mut text, &mesh, *from, *to)?;
     }
     Ok(text)
 }

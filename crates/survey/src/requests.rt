@@ -5,11 +5,11 @@ use crate::complaints::ComplaintFromRefused;
 use std::alloc::Global;
 
 #[derive(Drop)]
-pub struct Request {
-    pub rows: u32,
-    pub columns: u32,
+pub(crate) struct Request {
+    pub(crate) rows: u32,
+    pub(crate) columns: u32,
     /// From a label to another, in the order in which they are asked for.
-    pub ways: Vec<(u32, u32)>,
+    pub(crate) ways: Vec<(u32, u32)>,
 }
 
 fn number(heap: Global, word: &str) -> Result<u32, Complaint> {
@@ -26,20 +26,23 @@ fn way(heap: Global, words: &[String]) -> Result<(u32, u32), Complaint> {
             number(heap, from.as_str())?,
             number(heap, to.as_str())?,
         )),
-        _ => Err(Complaint::Usage),
+        _ => Err(Complaint::Words),
     }
 }
 
 /// `mesh ROWS COLUMNS`, and then any number of ways.
-pub fn read(heap: Global, words: &[String]) -> Result<Request, Complaint> {
-    if words.len() < 3 || words[0].as_str() != "mesh" {
-        return Err(Complaint::Usage);
+pub(crate) fn read(heap: Global, words: &[String]) -> Result<Request, Complaint> {
+    let [kind, rows, columns, questions @ ..] = words else {
+        return Err(Complaint::Words);
+    };
+    if kind.as_str() != "mesh" {
+        return Err(Complaint::Words);
     }
-    let rows = number(heap, words[1].as_str())?;
-    let columns = number(heap, words[2].as_str())?;
+    let rows = number(heap, rows.as_str())?;
+    let columns = number(heap, columns.as_str())?;
     let mut ways = Vec::new(heap);
-    for words in words[3..].chunks(3) {
-        ways.push(way(heap, words)?)?;
+    for question in questions.chunks(3) {
+        ways.push(way(heap, question)?)?;
     }
     Ok(Request {
         rows,

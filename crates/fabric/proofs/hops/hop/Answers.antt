@@ -1,4 +1,4 @@
-use mathlib.Core.Path.{sym, _∙_}
+use mathlib.Core.Path.{sym}
 use Rattle.std.specs.declared.option.Option.the-variants.{Some, None}
 use Rattle.fabric.proofs.Hopping.{hop-end, hop-none}
 use Rattle.fabric.proofs.hops.hop.Needs as need

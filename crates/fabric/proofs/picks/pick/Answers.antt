@@ -1,5 +1,7 @@
 use mathlib.Core.Path.{sym, _∙_}
-use Rattle.fabric.proofs.Choosing.{turn, turn-end, taken, passed, picked-as}
+use Rattle.fabric.specs.Pick.{Picked}
+use Rattle.fabric.proofs.Choosing.{turn, turn-end, taken, passed, picked-law}
+use Rattle.fabric.proofs.Optional.{with-law}
 use Rattle.fabric.proofs.picks.pick.Needs as need
 use Rattle.fabric.proofs.picks.pick.Needs.{then-eligible, else-eligible}
 
@@ -15,4 +17,5 @@ loop-e-again g c =
 pub returns : need.returns
 returns g c =
     let m = g .T·Ranked in
-    picked-as (m .eligible) (m .rank) (c .args .entries .now) (c .loop-e .best) (turn-end (m .eligible) (m .rank) _ _ _ (c .loop-e-test .left) (c .loop-e .inv))
+    let xs = c .args .entries .now in
+    with-law (Picked (m .eligible) (m .rank) xs) _ (picked-law (m .eligible) (m .rank) xs) (c .loop-e .best) (turn-end (m .eligible) (m .rank) _ _ _ (c .loop-e-test .left) (c .loop-e .inv))

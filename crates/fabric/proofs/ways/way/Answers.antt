@@ -1,30 +1,32 @@
-use mathlib.Core.Path.{_≡_, sym, ap, _∙_}
-use mathlib.Core.List.{[], _∷_, _++_, append-assoc, append-nil}
-use Rattle.std.specs.Of.Vec.{vec-items}
-use Rattle.fabric.specs.Way.{hopsOf}
-use Rattle.fabric.proofs.Walking.{Turn, turn, hops-stay, way-as}
+use mathlib.Core.Path.{sym}
+use native.Mathlib.Omega.{arith}
+use Rattle.fabric.proofs.Walking.{Turn, walked-short, walked-on, walked-labels, walked-hops, walked-as}
 use Rattle.fabric.proofs.ways.way.Needs as need
 
-next : (g : _) (c : need.In-Continue-push-2 g) → Turn (g .F·Fabric .nodes (c .args .fabric .now)) (g .F·Fabric .near (c .args .fabric .now)) (g .F·Fabric·met .lawful (c .args .fabric .now)) (c .args .to) (c .loop-next .inv .1) (c .loop-next .at) (c .in-Some .next)
-next g c =
+turn : (g : _) (c : need.In-Some g) → Turn (g .F·Fabric .nodes (c .args .fabric .now)) (g .F·Fabric .near (c .args .fabric .now)) (c .args .from) (c .args .to) (c .loop-next .at) (c .loop-next .hops) (c .loop-next .labels) (c .in-Some .next)
+turn g c =
     let f = c .args .fabric .now in
-    turn (g .F·Fabric .nodes f) (g .F·Fabric .near f) (g .F·Fabric·met .lawful f) (c .args .to) (c .loop-next .inv .1) (c .loop-next .at) (c .in-Some .next) (c .loop-next .inv .0) (c .in-Some .ensures tt .is)
+    walked-on (g .F·Fabric .nodes f) (g .F·Fabric .near f) (g .F·Fabric·met .lawful f) (c .args .from) (c .args .to) (sym (c .if-not-both-exist .ensures tt)) (c .loop-next .at) (c .loop-next .hops) (c .loop-next .labels) (c .loop-next .inv) (c .in-Some .next) (c .in-Some .ensures tt .is)
+
+pub add-hops : need.add-hops
+add-hops g c = omega (arith, turn g c .free)
+
+pub cast-labels : need.cast-labels
+cast-labels g c = omega (arith, turn g c .free)
+
+pub index-labels-hops : need.index-labels-hops
+index-labels-hops g c = turn g c .free
 
 pub loop-next-less : need.loop-next-less
-loop-next-less g c = next g c .less
+loop-next-less g c = turn g c .less
 
 pub loop-next-again : need.loop-next-again
-loop-next-again g c =
+loop-next-again g c = turn g c .further
+
+pub ghost-result : need.ghost-result
+ghost-result g c =
     let f = c .args .fabric .now in
-    let rest = hopsOf (g .F·Fabric .nodes f) (g .F·Fabric .near f) (c .in-Some .next) (c .args .to) in
-    let labels = vec-items (c .loop-next .labels) in (
-      next g c .exists,
-      c .loop-next .inv .1,
-      ap (λ xs. xs ++ rest) (c .in-Continue-push-2 .ensures tt .items)
-          ∙ append-assoc labels (c .in-Some .next ∷ []) rest
-          ∙ ap (λ xs. labels ++ xs) (sym (next g c .on))
-          ∙ c .loop-next .inv .2,
-    )
+    (walked-short (g .F·Fabric .nodes f) (g .F·Fabric .near f) (g .F·Fabric·met .lawful f) (c .args .from) (c .args .to) (sym (c .if-not-both-exist .ensures tt)) (c .loop-next .at) (c .loop-next .hops) (c .loop-next .labels) (c .loop-next .inv), tt)
 
 pub returns : need.returns
 returns g c =
@@ -32,9 +34,8 @@ returns g c =
     let n = g .F·Fabric .nodes f in
     let near = g .F·Fabric .near f in
     let law = g .F·Fabric·met .lawful f in
-    let u = c .args .from in
-    let v = c .args .to in
-    let labels = vec-items (c .loop-next .labels) in
-    let stay = hops-stay n near law v (c .loop-next .inv .1) (c .loop-next .at) (c .loop-next .inv .0) (sym (c .in-rest .ensures tt .is)) in
-    let whole : labels ≡ u ∷ hopsOf n near u v = sym (append-nil labels) ∙ ap (λ xs. labels ++ xs) (sym stay) ∙ c .loop-next .inv .2 in
-    way-as n near law u v labels (sym (c .if-not-both-exist .ensures tt)) whole
+    let known = sym (c .if-not-both-exist .ensures tt) in
+    let l = c .loop-next in
+    let labels = walked-labels n near law (c .args .from) (c .args .to) known (l .at) (l .hops) (l .labels) (l .inv) (c .in-rest .ensures tt .is) in
+    let hops = walked-hops n near law (c .args .from) (c .args .to) known (l .at) (l .hops) (l .labels) (l .inv) (c .in-rest .ensures tt .is) in
+    walked-as n near law (c .args .from) (c .args .to) _ (l .hops) known labels hops

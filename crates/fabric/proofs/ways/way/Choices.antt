@@ -1,17 +1,9 @@
-use mathlib.Core.Path.{_≡_}
-use mathlib.Core.List.{_∷_, _++_}
-use Prim.Native.Nat.{_<_}
-use Rattle.std.specs.Of.Vec.{vec-items}
 use Rattle.fabric.specs.Hop.{distance}
-use Rattle.fabric.specs.Way.{hopsOf}
+use Rattle.fabric.proofs.Walking.{Walked}
 use Rattle.fabric.proofs.ways.way.Given as given
 
--- the labels so far and those still to come make the whole way
 abbrev pub Inv-loop-next : given.InvT-loop-next
-Inv-loop-next g l =
-    let n = g .F·Fabric .nodes (l .fabric) in
-    let near = g .F·Fabric .near (l .fabric) in
-    (l .at < n) × (l .to < n) × (vec-items (l .labels) ++ hopsOf n near (l .at) (l .to) ≡ l .from ∷ hopsOf n near (l .from) (l .to))
+Inv-loop-next g l = Walked (g .F·Fabric .nodes (l .fabric)) (g .F·Fabric .near (l .fabric)) (l .from) (l .to) (l .at) (l .hops) (l .labels)
 
 abbrev pub μ-loop-next : given.MeasureT-loop-next
 μ-loop-next g l = distance (l .at) (l .to)

@@ -1,5 +1,5 @@
 use native.Mathlib.Omega.{arith}
-use Rattle.fabric.proofs.Snakes.{narrow, shaped, shapeless}
+use Rattle.fabric.proofs.Snakes.{narrow, shapeless}
 use Rattle.fabric.proofs.meshes.Mesh.new.Needs as need
 
 pub returns-then-rows-eq0 : need.returns-then-rows-eq0
