@@ -1,4 +1,6 @@
 //! Fabrics of tiles: what a fabric is, hops and ways on any fabric; meshes, cubes and charts; and layouts, in which links are closed.
+#![tactic(auto)]
+
 mod charts;
 mod checks;
 mod cubes;

@@ -1,4 +1,6 @@
 //! Tables of cases for the library `fabric`.
+#![tactic(auto)]
+
 #[cfg(test)]
 mod charts;
 #[cfg(test)]

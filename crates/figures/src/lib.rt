@@ -1,4 +1,6 @@
 //! Worked examples whose answers are known, as one list: the calls that give them, and the proof that they do.
+#![tactic(auto)]
+
 ghost use Rattle.std.specs.Prelude.{◌≡◌, ◌*◌, Ok};
 ghost use Rattle.std.specs.List.{slice_get};
 ghost use Rattle.fabric.specs.Gray.{cube_addresses};

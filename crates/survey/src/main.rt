@@ -1,4 +1,6 @@
 //! Looks over a fabric: prints its labels and ways between them hop by hop, closes links, and writes the chart of what is left.
+#![tactic(auto)]
+
 mod complaints;
 mod reports;
 mod requests;
