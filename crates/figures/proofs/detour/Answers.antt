@@ -20,10 +20,10 @@ seven = refl
 pub returns : goal.returns
 returns c =
     let l = c.close.new.self in
-    let mesh = shape _ _ c.in-ok-new.ensures in
-    let same = c.in-ok-close.ensures.fabric ∙ c.new-layout.ensures.is.0 in
+    let mesh = shape _ _ c.in_ok-new.ensures in
+    let same = c.in_ok-close.ensures.fabric ∙ c.new-layout.ensures.is.0 in
     let rows : l.fabric.rows ≡ 4 = ap (λ m. m.rows) same ∙ mesh.0 in
     let columns : l.fabric.columns ≡ 4 = ap (λ m. m.columns) same ∙ mesh.1 in
-    let links : links_of l.closed ≡ (6, 9) ∷ [] = c.in-ok-close.ensures.closed ∙ ap (λ ls. closed_after None ls (6, 9)) c.new-layout.ensures.is.1 in
+    let links : links_of l.closed ≡ (6, 9) ∷ [] = c.in_ok-close.ensures.closed ∙ ap (λ ls. closed_after None ls (6, 9)) c.new-layout.ensures.is.1 in
     let e = c.hop.ensures.is ∙ made l.fabric.rows l.fabric.columns (links_of l.closed) rows columns links in
     record { rules = ap Ok e; values = ap Ok (e ∙ seven) }

@@ -5,15 +5,15 @@ use Rattle.fabric.specs.Check.{names}
 use Rattle.fabric.specs.Searching.{below_more, below_hit}
 use Rattle.fabric.proofs.checks.names.Goals as goal
 
-pub returns-then-port-at-next : goal.returns-then-port-at-next
-returns-then-port-at-next c =
+pub returns-then-port_at-next : goal.returns-then-port_at-next
+returns-then-port_at-next c =
     let test : ℕ → Bool = λ q. eqb (port_at c.args.bytes.now c.args.label q) c.args.next in
-    sym (below_hit test c.args.ports c.loop-q.q c.loop-q-test.true (eq-eqb _ c.args.next (sym c.port-at.ensures ∙ c.if-port-at-next.true)))
+    sym (below_hit test c.args.ports c.loop-q.q c.loop-q-test.true (eq-eqb _ c.args.next (sym c.port_at.ensures ∙ c.if-port_at-next.true)))
 
 pub loop-q-preserved : goal.loop-q-preserved
 loop-q-preserved c =
     let test : ℕ → Bool = λ q. eqb (port_at c.args.bytes.now c.args.label q) c.args.next in
-    below_more test c.loop-q.q (ne_eqb _ c.args.next (λ e. c.if-port-at-next.false (c.port-at.ensures ∙ e))) c.loop-q.invariant
+    below_more test c.loop-q.q (ne_eqb _ c.args.next (λ e. c.if-port_at-next.false (c.port_at.ensures ∙ e))) c.loop-q.invariant
 
 pub returns : goal.returns
 returns c =

@@ -14,8 +14,8 @@ pub loop-i-preserved : goal.loop-i-preserved
 loop-i-preserved g c =
     let f = c.args.fabric.now in
     let i = c.loop-i.i in (
-      fill_more (chart_byte (g.F.Fabric.near f) (g.F.Addressed.addresses f)) c.loop-i.buffer c.args.buffer.now i c.record-byte.result (omega arith) c.loop-i.invariant.0 c.record-byte.ensures.is,
-      λ _. ⊎_elim c.loop-i.invariant.1 (λ l. c.record-byte.ensures.long (omega arith)) (cases_lt 0 i),
+      fill_more (chart_byte (g.F.Fabric.near f) (g.F.Addressed.addresses f)) c.loop-i.buffer c.args.buffer.now i c.record_byte.result (omega arith) c.loop-i.invariant.0 c.record_byte.ensures.is,
+      λ _. ⊎_elim c.loop-i.invariant.1 (λ l. c.record_byte.ensures.long (omega arith)) (cases_lt 0 i),
     )
 
 pub returns : goal.returns

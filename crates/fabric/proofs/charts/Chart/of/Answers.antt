@@ -9,11 +9,15 @@ use Rattle.fabric.proofs.charts.Chart.of.Goals as goal
 front : (b all : List ℕ) → all ≡ b ++ drop (length b) (replicate 1536 0) → take (length b) all ≡ b
 front b all e = ap (take (length b)) e ∙ take_at b (drop (length b) (replicate 1536 0)) (length b) refl
 
-pub invariant-of-result : goal.invariant-of-result
-invariant-of-result c =
+pub invariant_of-result : goal.invariant_of-result
+invariant_of-result c =
     let b = c.args.bytes.now in
     let same = sym (front b c.overwrite.new.all c.overwrite.ensures) in
-    (c.requires.long, (subst (λ x. is_some (fault x) ≡ false) same c.requires.passed, (subst (λ x. octets x ≡ true) same (octets_from b (λ i. omega (arith, c.type-inv.bytes i))), tt)))
+    record {
+      fits = c.requires.long;
+      passed = subst (λ x. is_some (fault x) ≡ false) same c.requires.passed;
+      small = subst (λ x. octets x ≡ true) same (octets_from b (λ i. omega (arith, c.type_inv.bytes i)));
+    }
 
 pub returns : goal.returns
 returns c = front c.args.bytes.now c.overwrite.new.all c.overwrite.ensures

@@ -11,4 +11,4 @@ returns c =
     let s = c.args.self.now in
     let b = bytes_of s in
     let k = c.args.label in
-    address_as b (held_sound b s.passed) k _ (c.address-in.ensures ∙ ap (λ x. allowed (ltb k (records_of x)) (address_at x k)) c.bytes.ensures)
+    address_as b (held_sound b s.passed) k _ (c.address_in.ensures ∙ ap (λ x. allowed (ltb k (records_of x)) (address_at x k)) c.bytes.ensures)

@@ -6,5 +6,5 @@ use Rattle.fabric.proofs.opens.ChartFabric.neighbour.Goals as goal
 
 pub returns : goal.returns
 returns c =
-    chart_near_as (bytes_of c.args.self.now) c.args.label c.args.port c.neighbour-in.result
-    (c.neighbour-in.ensures ∙ ap (λ b. chart_near b c.args.label c.args.port) c.bytes.ensures)
+    chart_near_as (bytes_of c.args.self.now) c.args.label c.args.port c.neighbour_in.result
+    (c.neighbour_in.ensures ∙ ap (λ b. chart_near b c.args.label c.args.port) c.bytes.ensures)
