@@ -1,3 +1,4 @@
+-- what the contracts speak of
 pub mod Chart
 pub mod Check
 pub mod Copy
@@ -15,17 +16,18 @@ pub mod Search
 pub mod Snake
 pub mod Steps
 pub mod Way
-pub mod Grays
-pub mod Coding
-pub mod Counting
-pub mod Optional
-pub mod Placing
-pub mod Hopping
+-- lemmas for the laws that each fabric proves: they are checked, and nobody has to believe them
+pub mod Answering
+pub mod Asking
+pub mod Charting
 pub mod Choosing
 pub mod Closing
-pub mod Answering
-pub mod Snakes
-pub mod Asking
-pub mod Searching
-pub mod Charting
+pub mod Coding
+pub mod Counting
+pub mod Grays
+pub mod Hopping
 pub mod Octets
+pub mod Optional
+pub mod Placing
+pub mod Searching
+pub mod Snakes

@@ -29,11 +29,8 @@ fn check_way(rt: &impl Abort, mesh: &Mesh, from: u8, to: u8, labels: &[u8]) -> R
         Some(path) => {
             assert_eq!(rt; path.labels(), labels);
             Ok(())
-        },
-        None => {
-            assert!(rt; false, "no way");
-            Ok(())
-        },
+        }
+        None => Err(Fail::new("no way")),
     }
 }
 

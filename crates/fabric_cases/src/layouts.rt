@@ -30,7 +30,7 @@ fn the_first_no_gives_its_number(rt: HostRuntime) -> Result<(), Fail> {
     for (link, number) in cases {
         assert_eq!(rt; answer(&mut layout, link), number);
     }
-    assert_eq!(rt; layout.closed(), &[(6, 9), (10, 5)]);
+    assert_eq!(rt; layout.closed(), [(6, 9), (10, 5)].as_slice());
     Ok(())
 }
 

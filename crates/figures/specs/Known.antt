@@ -8,6 +8,7 @@ use Rattle.fabric.specs.Snake.{shape_of, label_of, mesh_near}
 use Rattle.fabric.specs.declared.refusals.Refusal.{Refusal}
 use Rattle.fabric.specs.declared.refusals.Refusal.TheVariants.{MeshSize, CubeSize}
 use Rattle.figures.specs.declared.Figures.{Figures}
+use Rattle.figures.specs.declared.OtherFigures.{OtherFigures}
 
 -- what is asked of a mesh, or the refusal where there is no such mesh
 abbrev pub on_mesh : {A : Type 0} → ℕ → ℕ → A → Result A Refusal
@@ -22,8 +23,6 @@ abbrev pub ruled : Figures
 ruled = record {
   labels = label_of 3 4 (3, 1) ∷ label_of 3 4 (0, 1) ∷ label_of 3 4 (0, 2) ∷ [];
   hops = map (hop_of 16 (mesh_near 4 4) 6) (13 ∷ 7 ∷ 4 ∷ 1 ∷ []);
-  addresses = map (slice_get (cube_addresses 3)) (2 ∷ 4 ∷ 7 ∷ []);
-  detour = hop_of 16 (thinned ((6, 9) ∷ []) (mesh_near 4 4)) 6 13;
 }
 
 -- the figures themselves
@@ -31,6 +30,17 @@ abbrev pub known : Figures
 known = record {
   labels = Some 4 ∷ Some 7 ∷ Some 8 ∷ [];
   hops = Some 9 ∷ Some 7 ∷ Some 5 ∷ Some 1 ∷ [];
+}
+
+-- and the same for cubes, and for a mesh with a closed link
+abbrev pub ruled_others : OtherFigures
+ruled_others = record {
+  addresses = map (slice_get (cube_addresses 3)) (2 ∷ 4 ∷ 7 ∷ []);
+  detour = hop_of 16 (thinned ((6, 9) ∷ []) (mesh_near 4 4)) 6 13;
+}
+
+abbrev pub known_others : OtherFigures
+known_others = record {
   addresses = Some 3 ∷ Some 6 ∷ Some 4 ∷ [];
   detour = Some 7;
 }

@@ -8,6 +8,7 @@ mod requests;
 use complaints::Complaint;
 use reports::{File, survey_of};
 use requests::{Source, read};
+use std::process::ExitCode;
 use std::{env, fs};
 
 // What the chart's file holds, where the fabric comes from one.
@@ -46,12 +47,15 @@ fn survey(rt: &HostRuntime) -> Result<(), Complaint> {
     Ok(())
 }
 
-fn main(rt: HostRuntime) -> Result<(), Complaint> {
-    let outcome = survey(&rt);
-    if let Err(complaint) = &outcome {
-        eprintln!(rt; "survey: {complaint}")?;
+fn main(rt: HostRuntime) -> ExitCode {
+    match survey(&rt) {
+        Ok(()) => ExitCode::SUCCESS,
+        Err(complaint) => {
+            // where standard error takes nothing, the status tells alone
+            let _ = eprintln!(rt; "survey: {complaint}");
+            ExitCode::FAILURE
+        }
     }
-    outcome
 }
 
 #[cfg(test)]

@@ -7,6 +7,6 @@ pub unreachable-requires : goal.unreachable-requires
 unreachable-requires c =
     let m = c.args.mesh.now in
     let shape = c.shape-rows.ensures in
-    c.in-default.not-Some (label_at m.columns (c.loop-x.x, c.loop-y.y))
+    c.in_default.not-Some (label_at m.columns (c.loop-x.x, c.loop-y.y))
     (c.label_at.ensures ∙ cond-true (inside m.rows m.columns (c.loop-x.x, c.loop-y.y)) (Some (label_at m.columns (c.loop-x.x, c.loop-y.y))) None
     (and_from _ _ (lt-ltb c.loop-x.x m.columns (omega (arith, ap (λ s. s.1) shape))) (lt-ltb c.loop-y.y m.rows (omega (arith, ap (λ s. s.0) shape)))))

@@ -5,4 +5,4 @@ use Rattle.survey.proofs.reports.write_nodes.Goals as goal
 pub unreachable-requires : goal.unreachable-requires
 unreachable-requires g c =
     let addresses = g.F.Addressed.addresses c.args.fabric.now in
-    c.in-default.not-Some _ (c.address.ensures.is ∙ slice_get-get_or addresses c.loop-label.label-counter 0 (omega arith))
+    c.in_default.not-Some _ (c.address.ensures.is ∙ slice_get-get_or addresses c.loop-label.label-counter 0 (omega arith))
