@@ -1,10 +1,11 @@
 #!/usr/bin/env python3
 """Brings this repository's own definitions and lemmas to the spelling of Rattle's library: words in snake case.
 
-Run once, at the top, after the kit's own port script. A name is ours where a file of specs/ or proofs/ declares it:
-a definition, a lemma, a field, or a local definition. Names that Rattle makes (the goals in Answers.antt and
-Invariants.antt, the steps that an answer cites) keep their dashes, and so do the library's; functions of src/,
-strings, inputs and outputs are left alone.
+Run once, at the top, after the kit's own port script. A name is ours where a file of specs/ or proofs/ declares it
+with a type: a definition, a lemma, a field, or a local definition. Names that Rattle makes (the goals in Answers.antt
+and Invariants.antt, the steps that an answer cites) keep their dashes, and so do the library's. Functions of src/ have
+neither a dash nor a capital, so none is touched; nor are inputs and outputs. Where two names would fall together it
+changes nothing.
 """
 import pathlib
 import re
@@ -68,24 +69,31 @@ def fall_together(table, ours):
     return {new: olds for new, olds in seen.items() if len(olds) > 1 or new in ours}
 
 
-def respell(text, table):
+def respell(path, text, table):
     if not table:
         return text
+    # in the answers to a goal, c. and w. are followed by a step of the code, which is Rattle's to name
+    step = r"(?<!\b[cw]\.)" if path.name in ("Answers.antt", "Invariants.antt") else ""
     names = "|".join(re.escape(n) for n in sorted(table, key=len, reverse=True))
-    return re.sub(rf"(?<!{WORD})({names})(?!{WORD})", lambda m: table[m.group(1)], text)
+    return re.sub(rf"(?<!{WORD}){step}({names})(?!{WORD})", lambda m: table[m.group(1)], text)
 
 
 def main():
     texts = {p: p.read_text() for p in own_files()}
     ours, others = declared(texts)
     table = renamings(ours, others)
-    for new, olds in fall_together(table, ours).items():
+    for name in sorted(n for n in ours & others if snake(n) != n):
+        print(f"left as it is, since Rattle or its library has it too: {name}")
+    together = fall_together(table, ours)
+    for new, olds in together.items():
         print(f"falls together: {new}: {' '.join(olds)}{' (declared)' if new in ours else ''}")
+    if together:
+        sys.exit("give these names another spelling in LEMMAS")
     sources = sorted(pathlib.Path("crates").glob("*/src/**/*.rt"))
     changed = 0
     for path in [*texts, *sources]:
         text = path.read_text()
-        new = respell(text, table)
+        new = respell(path, text, table)
         if new != text:
             path.write_text(new)
             changed += 1

@@ -141,11 +141,11 @@ module _ (x : List ℕ) (exact : 12 * records_of x ≡ length x) (small : octets
       let j = i % 12 in
       let row : k < records_of x = omega arith in
       let place : 12 * k + j ≡ i = omega arith in
-      let of-address = address_byte (unwrap_or (slice_get (chart_addresses x) k) 0) j in
-      let of-port = unwrap_or (chart_near x k (j - 4)) 255 in
+      let of_address = address_byte (unwrap_or (slice_get (chart_addresses x) k) 0) j in
+      let of_port = unwrap_or (chart_near x k (j - 4)) 255 in
       sym (⊎_elim
-      (λ l. cond-true (ltb j 4) of-address of-port (lt-ltb j 4 l) ∙ ap (λ o. address_byte (unwrap_or o 0) j) (nth_counted (address_at x) (records_of x) k row) ∙ address_byte_lem x small k j l ∙ ap (λ n. get_or x n 0) place)
-      (λ l. cond-false (ltb j 4) of-address of-port (le-ltb j 4 l) ∙ port_byte k (j - 4) i row (omega arith) (omega arith))
+      (λ l. cond-true (ltb j 4) of_address of_port (lt-ltb j 4 l) ∙ ap (λ o. address_byte (unwrap_or o 0) j) (nth_counted (address_at x) (records_of x) k row) ∙ address_byte_lem x small k j l ∙ ap (λ n. get_or x n 0) place)
+      (λ l. cond-false (ltb j 4) of_address of_port (le-ltb j 4 l) ∙ port_byte k (j - 4) i row (omega arith) (omega arith))
       (cases_lt j 4))
 
   pub chart_again : chart_of (records_of x) (chart_near x) (chart_addresses x) ≡ x

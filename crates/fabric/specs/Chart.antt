@@ -1,5 +1,5 @@
 -- A chart: records of 12 bytes, each an address and the neighbours through the ports; and the fabric that it gives.
-use Rattle.std.specs.Prelude.{◌≡◌, ℕ, ◌+◌, ◌*◌, ◌/◌, ◌%◌, ◌<◌, ◌≤◌, Bool, cond, not, ◌&&◌, leb, ◌≢◌, ◌↔◌, List, [], ◌∷◌, map, length, Some, None, Option, ◌==◌, nat_le, nat_lt, slice_index}
+use Rattle.std.specs.Prelude.{◌≡◌, ℕ, ◌+◌, ◌*◌, ◌/◌, ◌%◌, ◌<◌, ◌≤◌, Bool, cond, not, ◌&&◌, ◌≢◌, ◌↔◌, List, [], ◌∷◌, map, length, Some, None, Option, ◌==◌, nat_le, nat_lt, slice_index}
 use Rattle.std.specs.List.{range_with_len}
 use Rattle.fabric.specs.Fabrics.{Near, Lawful, AllDifferent}
 use Rattle.fabric.specs.Options.{allowed}
@@ -47,7 +47,7 @@ pub record Charted (b : List ℕ) : Type 0 where
 
 -- every byte has at most 8 bits
 unfoldable pub octets : List ℕ → Bool
-octets b = not (some_below (λ i. leb 256 (slice_index b i)) (length b))
+octets b = not (some_below (λ i. nat_le 256 (slice_index b i)) (length b))
 
 -- the chart of one node, with address 0
 abbrev pub alone : List ℕ

@@ -77,9 +77,9 @@ module _ (b : List ℕ) (s : Sound b) where
   later u p q v e f l =
       let i = near_is b u p v e in
       let j = near_is b u q v f in
-      let named-before = names b u (port_at b u q) q in
-      let t = leads u q v f (not named-before) (s.all_pass New u q j.0 j.1) in
-      both_ways named-before (not-true named-before t) (names_it b u (port_at b u q) q p l (i.2 ∙ sym j.2))
+      let named_before = names b u (port_at b u q) q in
+      let t = leads u q v f (not named_before) (s.all_pass New u q j.0 j.1) in
+      both_ways named_before (not-true named_before t) (names_it b u (port_at b u q) q p l (i.2 ∙ sym j.2))
 
   back : (u p v : ℕ) → chart_near b u p ≡ Some v → (q : ℕ) × (chart_near b v q ≡ Some u)
   back u p v e =
@@ -166,11 +166,11 @@ module _ (b : List ℕ) (s : Charted b) where
   passes_all Exists k p h l = either k p h l (nat_lt (port_at b k p) m) (λ e. lt-ltb (port_at b k p) m (s.lawful.within k p (port_at b k p) e).2)
   passes_all Other k p h l = never (port_at b k p == k) (λ t. s.lawful.no_self k (p, is_near b k p k h l (eqb-true (port_at b k p) k t) (λ f. let z = s.lawful.bounded in omega arith)))
   passes_all New k p h l =
-      let named-before = names b k (port_at b k p) p in
-      either k p h l (not named-before) (λ e.
-      never named-before (λ t.
+      let named_before = names b k (port_at b k p) p in
+      either k p h l (not named_before) (λ e.
+      never named_before (λ t.
       let r = named b k (port_at b k p) p t in
-      let same-port = s.lawful.once k r.0 p (port_at b k p) (is_near b k r.0 (port_at b k p) h (let z = r.1 in omega arith) r.2 (near_is b k p (port_at b k p) e).3) e in
+      let same_port = s.lawful.once k r.0 p (port_at b k p) (is_near b k r.0 (port_at b k p) h (let z = r.1 in omega arith) r.2 (near_is b k p (port_at b k p) e).3) e in
       let z = r.1 in
       omega arith))
   passes_all Mutual k p h l = either k p h l (names b (port_at b k p) k 8) (λ e. named_by (port_at b k p) k (s.lawful.two_way k (port_at b k p) (p, e)))

@@ -170,11 +170,11 @@ module _ (nodes : ℕ) (near : Near) (law : Lawful nodes near) (ls : List Link) 
     refused = λ n e u p. ap (λ o. thinned (closed_after o ls l) near u p) e;
     closed = λ e u p v.
         let after : thinned (closed_after (close_refusal nodes near ls l) ls l) near u p ≡ thinned (ls ++ l ∷ []) near u p = ap (λ o. thinned (closed_after o ls l) near u p) e in
-        let law-before = thinned_law ls near u p v in
-        let law-after = thinned_law (ls ++ l ∷ []) near u p v in
+        let law_before = thinned_law ls near u p v in
+        let law_after = thinned_law (ls ++ l ∷ []) near u p v in
         let more = closed_more ls l u v in (
-          (λ f. let s = law-after.0 (sym after ∙ f) in (law-before.1 (s.0, λ h. s.1 (more.1 (inl h))), λ j. s.1 (more.1 (inr j)))),
-          (λ s. let b = law-before.0 s.0 in after ∙ law-after.1 (b.0, λ h. ⊎_elim b.1 s.1 (more.0 h))),
+          (λ f. let s = law_after.0 (sym after ∙ f) in (law_before.1 (s.0, λ h. s.1 (more.1 (inl h))), λ j. s.1 (more.1 (inr j)))),
+          (λ s. let b = law_before.0 s.0 in after ∙ law_after.1 (b.0, λ h. ⊎_elim b.1 s.1 (more.0 h))),
         );
   }
 

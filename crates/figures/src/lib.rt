@@ -73,7 +73,7 @@ fn detour() -> Result<Option<u8>, Refusal>
     Ok(hop(&layout, 6, 13))
 }
 
-/// Every figure, by the calls of the libraries.
+/// Every figure of a mesh with all its links open, by the calls of the libraries.
 pub fn work_out() -> Result<Figures, Refusal>
     ensures rules { result ≡ Ok ruled }
     ensures values { result ≡ Ok known }
@@ -87,7 +87,7 @@ pub fn work_out() -> Result<Figures, Refusal>
     Ok(Figures { labels, hops })
 }
 
-/// Every other figure, by the calls of the libraries.
+/// The figures of cubes and of a closed link, by the calls of the libraries.
 pub fn work_out_others() -> Result<OtherFigures, Refusal>
     ensures rules { result ≡ Ok ruled_others }
     ensures values { result ≡ Ok known_others }

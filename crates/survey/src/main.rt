@@ -181,6 +181,10 @@ mod tests {
             "mesh: rows 2, columns 3, nodes 6\n   0   1   2\n   5   4   3\nway from 0 to 4: length 2\n   0 -> 1\n   1 -> 4\nway from 2 to 2: length 0\nclosed 0 - 5\nway from 0 to 5: length 3\n   0 -> 1\n   1 -> 4\n   4 -> 5\n"
         );
         assert_eq!(rt;
+            said(rt.alloc(), "mesh 2 2 close 0 3 show", &[])?.as_str(),
+            "mesh: rows 2, columns 2, nodes 4\n   0   1\n   3   2\nclosed 0 - 3\nlabel     address  p0  p1  p2  p3  p4  p5  p6  p7\n    0           0   1   -   -   -   -   -   -   -\n    1           1   -   0   2   -   -   -   -   -\n    2         257   -   3   -   1   -   -   -   -\n    3         256   2   -   -   -   -   -   -   -\n"
+        );
+        assert_eq!(rt;
             said(rt.alloc(), "cube 1 write made.cht", &[])?.as_str(),
             "cube: dimension 1, nodes 2\nlabel     address  p0  p1  p2  p3  p4  p5  p6  p7\n    0           0   1   -   -   -   -   -   -   -\n    1           1   0   -   -   -   -   -   -   -\nwrote made.cht: 24 bytes\n"
         );
