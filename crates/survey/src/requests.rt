@@ -38,47 +38,32 @@ fn number(word: &String) -> Result<u32, Complaint> {
     }
 }
 
-// The next word as a number.
-fn one(words: &mut Iter<'_, String>) -> Result<u32, Complaint> {
-    let Some(word) = words.next() else {
-        return Err(Complaint::Words);
-    };
-    number(word)
+fn next_word<'a>(words: &mut Iter<'a, String>) -> Result<&'a String, Complaint> {
+    match words.next() {
+        Some(word) => Ok(word),
+        None => Err(Complaint::Words),
+    }
 }
 
 // The next two words as numbers. A missing word is told before a word that is no number.
 fn pair(words: &mut Iter<'_, String>) -> Result<(u32, u32), Complaint> {
-    let Some(first) = words.next() else {
-        return Err(Complaint::Words);
-    };
-    let Some(second) = words.next() else {
-        return Err(Complaint::Words);
-    };
+    let first = next_word(words)?;
+    let second = next_word(words)?;
     Ok((number(first)?, number(second)?))
-}
-
-fn file(word: Option<&String>) -> Result<String, Complaint> {
-    let Some(word) = word else {
-        return Err(Complaint::Words);
-    };
-    Ok(word.clone()?)
 }
 
 // `mesh ROWS COLUMNS`, `cube DIMENSION` or `chart FILE`
 fn read_source(words: &mut Iter<'_, String>) -> Result<Source, Complaint> {
-    let Some(kind) = words.next() else {
-        return Err(Complaint::Words);
-    };
-    match kind.as_str() {
+    match next_word(words)?.as_str() {
         "mesh" => {
             let (rows, columns) = pair(words)?;
             Ok(Source::Mesh { rows, columns })
         }
         "cube" => Ok(Source::Cube {
-            dimension: one(words)?,
+            dimension: number(next_word(words)?)?,
         }),
         "chart" => Ok(Source::Chart {
-            file: file(words.next())?,
+            file: next_word(words)?.clone()?,
         }),
         _ => Err(Complaint::Words),
     }
@@ -97,7 +82,7 @@ fn read_action(kind: &String, words: &mut Iter<'_, String>) -> Result<Action, Co
         }
         "show" => Ok(Action::Show),
         "write" => Ok(Action::Write {
-            file: file(words.next())?,
+            file: next_word(words)?.clone()?,
         }),
         _ => Err(Complaint::Words),
     }
