@@ -1,13 +1,14 @@
 -- What the check of a chart tells: that everything passes, or the first fault.
 use Rattle.std.specs.Prelude.{◌≡◌, ℕ, zero, suc, ◌+◌, ◌-◌, ◌*◌, ◌/◌, ◌%◌, ◌<◌, ◌≤◌, Bool, true, false, cond, not, ◌||◌, List, [], ◌∷◌, length, is_some, Some, None, Decides, Option, nat_eq, nat_le, nat_lt}
+use Rattle.std.specs.Option.{option_map, option_or}
 use Rattle.std.proofs.Math.Path.{refl, subst}
 use Rattle.std.proofs.Common.{sym, ap, ◌∙◌, ⊎_elim, inl, inr, arith}
 use Rattle.std.proofs.lemmas.Bool.{true≢false, both_ways, cases_lt, cond-true, not-true, leb-true, le-leb}
 use Rattle.std.proofs.lemmas.Bool.Decides.{Decides-and, Decides-or, Decides-not, Decides-like, Decides-eqb, Decides-ltb, Decides-below_or}
 use Rattle.fabric.specs.Chart.{records_of, whole, port_at, address_at, Whole}
 use Rattle.fabric.specs.Check.{question_number, names, taken, passes, passes_at, Fault, fault_at, found, sweep, questions, fault, Passes, FirstFault}
-use Rattle.fabric.specs.Options.{allowed, each}
-use Rattle.fabric.specs.Search.{some_below, or_else, first_fail}
+use Rattle.fabric.specs.Options.{allowed}
+use Rattle.fabric.specs.Search.{some_below, first_fail}
 use Rattle.fabric.specs.declared.questions.Question.{Question}
 use Rattle.fabric.specs.declared.questions.Question.TheVariants.{Exists, Other, New, Mutual, Address, Next}
 use Rattle.fabric.specs.Optional.{nothing, allowed_is, each_is, each_none}
@@ -73,7 +74,7 @@ first_some : (test : ℕ → Bool) (n i : ℕ) → first_fail test n ≡ Some i 
 first_some test zero i e = absurd (nothing e)
 first_some test (suc n) i e = decide (first_fail test n) refl (first_some test n i) e
   where
-    decide : (o : Option ℕ) → first_fail test n ≡ o → (first_fail test n ≡ Some i → FirstAt test n i) → or_else o (allowed (not (test n)) n) ≡ Some i → FirstAt test (suc n) i
+    decide : (o : Option ℕ) → first_fail test n ≡ o → (first_fail test n ≡ Some i → FirstAt test n i) → option_or o (allowed (not (test n)) n) ≡ Some i → FirstAt test (suc n) i
     decide None f before g =
         let a = allowed_is (not (test n)) g in
         let last = a.1 in
@@ -97,7 +98,7 @@ found_none b q e k p h l =
 
 none_found : (b : List ℕ) (q : Question) → TestsPass b q → found b q ≡ None
 unfolding found
-none_found b q h = ap (each (fault_at q)) (none_first (passes_at q b) (8 * records_of b) (λ i l. h (i / 8) (i % 8) (omega arith) (omega arith)))
+none_found b q h = ap (option_map (fault_at q)) (none_first (passes_at q b) (8 * records_of b) (λ i l. h (i / 8) (i % 8) (omega arith) (omega arith)))
 
 -- what is told of a chart of whole records: no fault, or the first
 abbrev Told : List ℕ → Option Fault → Type 0
@@ -157,7 +158,7 @@ module _ (b : List ℕ) (long : whole b ≡ true) where
   tells m [] up earlier = λ q. earlier q (let l = (by_number q).2 in omega arith)
   tells m (q ∷ qs) up earlier = decide (found b q) refl (tells (m + 1) qs up.1)
     where
-      decide : (o : Option Fault) → found b q ≡ o → (((e : Question) → question_number e < m + 1 → TestsPass b e) → Told b (sweep b qs)) → Told b (or_else o (sweep b qs))
+      decide : (o : Option Fault) → found b q ≡ o → (((e : Question) → question_number e < m + 1 → TestsPass b e) → Told b (sweep b qs)) → Told b (option_or o (sweep b qs))
       decide None f rest =
           let n = up.0 in
           rest (λ e l.
@@ -193,7 +194,7 @@ no_fault b s = cond-true (whole b) (sweep b questions) (Some (3, 0, 0)) ((whole_
   where
     swept : (qs : List Question) → sweep b qs ≡ None
     swept [] = refl
-    swept (q ∷ qs) = ap (λ x. or_else x (sweep b qs)) (none_found b q (s.all_pass q)) ∙ swept qs
+    swept (q ∷ qs) = ap (λ x. option_or x (sweep b qs)) (none_found b q (s.all_pass q)) ∙ swept qs
 
 pub sound : (b : List ℕ) → fault b ≡ None → Sound b
 sound b e = subst (Verdict b) e (verdict b)

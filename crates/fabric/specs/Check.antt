@@ -1,9 +1,9 @@
 -- The questions that a chart has to pass, and the first that it fails.
 use Rattle.std.specs.Prelude.{◌≡◌, ℕ, ◌+◌, ◌*◌, ◌/◌, ◌%◌, ◌<◌, Bool, cond, not, ◌||◌, ◌≢◌, ◌⊎◌, ◌↔◌, List, [], ◌∷◌, is_some, Some, None, Ok, Err, Option, Result, ◌==◌, nat_eq, nat_le, nat_lt}
+use Rattle.std.specs.Option.{option_map, option_or}
 use Rattle.fabric.specs.Chart.{records_of, whole, port_at, address_at, Whole, Charted, alone}
-use Rattle.fabric.specs.Options.{each}
 use Rattle.fabric.specs.Refusals.{number_of}
-use Rattle.fabric.specs.Search.{some_below, or_else, first_fail}
+use Rattle.fabric.specs.Search.{some_below, first_fail}
 use Rattle.fabric.specs.declared.checks.ChartFault.{ChartFault}
 use Rattle.fabric.specs.declared.questions.Question.{Question}
 use Rattle.fabric.specs.declared.questions.Question.TheVariants.{Exists, Other, New, Mutual, Address, Next}
@@ -53,12 +53,12 @@ fault_at q i = (question_number q, i / 8, i % 8)
 
 -- the first place at which a question fails
 unfoldable pub found : List ℕ → Question → Option Fault
-found b q = each (fault_at q) (first_fail (passes_at q b) (8 * records_of b))
+found b q = option_map (fault_at q) (first_fail (passes_at q b) (8 * records_of b))
 
 -- each question over all records before the next
 abbrev pub sweep : List ℕ → List Question → Option Fault
 sweep b [] = None
-sweep b (q ∷ qs) = or_else (found b q) (sweep b qs)
+sweep b (q ∷ qs) = option_or (found b q) (sweep b qs)
 
 abbrev pub questions : List Question
 questions = Exists ∷ Other ∷ New ∷ Mutual ∷ Address ∷ Next ∷ []

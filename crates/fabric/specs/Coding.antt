@@ -1,18 +1,19 @@
 -- Addresses by a code for places are all different, and each leads back to its label.
 use Rattle.std.specs.Prelude.{◌≡◌, ℕ, zero, suc, ◌+◌, ◌^◌, ◌<◌, Bool, true, false, cond, List, [], ◌∷◌, length, Some, None, Option, ◌==◌, ◌≢◌, nat_lt, refl}
+use Rattle.std.specs.Option.{option_map}
 use Rattle.std.proofs.Common.{sym, ap, subst, ◌∙◌, ⊎_elim, add-one}
 use Rattle.std.specs.List.{slice_get}
 use Rattle.std.proofs.lemmas.List.FromFn.{length-map-range_with_len}
 use Rattle.std.proofs.lemmas.Bool.{eqb-true, eqb-false, lt-ltb, ltb-true, cond-true, cond-false, cases_lt}
 use Rattle.fabric.specs.Fabrics.{AllDifferent, AllFit, label_with, Located}
-use Rattle.fabric.specs.Options.{allowed, each}
+use Rattle.fabric.specs.Options.{allowed}
 use Rattle.fabric.specs.Steps.{codes}
 use Rattle.fabric.specs.Counting.{nth_counted, nth_past_count, counted_nth}
 use Rattle.fabric.specs.Optional.{nothing, same, allowed_is, each_is, each_none, with_law}
 use Rattle.fabric.specs.Placing.{Placing}
 
 -- the label with an address is the one that has it, in plain terms
-located_on : (x : ℕ) (xs : List ℕ) (a : ℕ) → Located xs a (label_with xs a) → (t : Bool) → (x == a) ≡ t → Located (x ∷ xs) a (cond t (Some 0) (each (λ i. i + 1) (label_with xs a)))
+located_on : (x : ℕ) (xs : List ℕ) (a : ℕ) → Located xs a (label_with xs a) → (t : Bool) → (x == a) ≡ t → Located (x ∷ xs) a (cond t (Some 0) (option_map (λ i. i + 1) (label_with xs a)))
 located_on x xs a rest true e = record {
   found = λ k f. subst (λ i. slice_get (x ∷ xs) i ≡ Some a) (same f) (ap Some (eqb-true x a e));
   missing = λ f. absurd (nothing (sym f));

@@ -1,7 +1,7 @@
 -- What a fabric is, and what its addresses are.
 use Rattle.std.specs.Prelude.{◌≡◌, ℕ, ◌+◌, ◌^◌, ◌<◌, ◌≤◌, cond, List, [], ◌∷◌, Some, None, Option, ◌==◌, ◌≢◌}
+use Rattle.std.specs.Option.{option_map}
 use Rattle.std.specs.List.{slice_get}
-use Rattle.fabric.specs.Options.{each}
 
 -- what a fabric answers for a label and a port: a neighbour, or none
 abbrev pub Near : Type 0
@@ -43,7 +43,7 @@ AllFit xs = (i a : ℕ) → slice_get xs i ≡ Some a → a < 2 ^ 32
 -- the label that has an address, the first if there were several, or none
 abbrev pub label_with : List ℕ → ℕ → Option ℕ
 label_with [] a = None
-label_with (x ∷ xs) a = cond (x == a) (Some 0) (each (λ i. i + 1) (label_with xs a))
+label_with (x ∷ xs) a = cond (x == a) (Some 0) (option_map (λ i. i + 1) (label_with xs a))
 
 -- In plain terms: the label found is the one that has the address, and none is found only where none has it.
 pub record Located (addresses : List ℕ) (a : ℕ) (r : Option ℕ) : Type 0 where

@@ -1,7 +1,8 @@
 -- Values that may be missing, and values that keep a law.
 use Rattle.std.specs.Prelude.{◌≡◌, ℕ, Bool, true, false, cond, Some, None, Option, ◌≢◌, refl}
+use Rattle.std.specs.Option.{option_map}
 use Rattle.std.proofs.Common.{sym, subst, arith}
-use Rattle.fabric.specs.Options.{allowed, each}
+use Rattle.fabric.specs.Options.{allowed}
 
 -- none is not a value
 pub nothing : {A : Type 0} {x : A} → None ≢ Some x
@@ -21,11 +22,11 @@ cond_is true e = (refl, e)
 cond_is false e = absurd (nothing e)
 
 -- a value that came by a function
-pub each_is : {A B : Type 0} {y : B} (f : A → B) (o : Option A) → each f o ≡ Some y → (x : A) × (o ≡ Some x) × (f x ≡ y)
+pub each_is : {A B : Type 0} {y : B} (f : A → B) (o : Option A) → option_map f o ≡ Some y → (x : A) × (o ≡ Some x) × (f x ≡ y)
 each_is f None e = absurd (nothing e)
 each_is f (Some x) e = (x, refl, same e)
 
-pub each_none : {A B : Type 0} (f : A → B) (o : Option A) → each f o ≡ None → o ≡ None
+pub each_none : {A B : Type 0} (f : A → B) (o : Option A) → option_map f o ≡ None → o ≡ None
 each_none f None e = refl
 each_none f (Some x) e = absurd (nothing (sym e))
 

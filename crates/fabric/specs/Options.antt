@@ -4,8 +4,3 @@ use Rattle.std.specs.Prelude.{Bool, cond, Some, None, Option}
 -- the value where the test passes, and else none
 abbrev pub allowed : {A : Type 0} → Bool → A → Option A
 allowed b x = cond b (Some x) None
-
--- the function at the value, if there is one
-abbrev pub each : {A B : Type 0} → (A → B) → Option A → Option B
-each f None = None
-each f (Some x) = Some (f x)

@@ -1,10 +1,11 @@
 -- What a search over the numbers below a bound finds, and the turns of a loop that makes it.
 use Rattle.std.specs.Prelude.{◌≡◌, ℕ, zero, suc, ◌+◌, ◌<◌, Bool, true, false, not, Some, None, Option, refl}
+use Rattle.std.specs.Option.{option_or}
 use Rattle.std.proofs.Common.{sym, ap, subst, ◌∙◌, ⊎_elim, arith, add-one}
 use Rattle.std.proofs.lemmas.Bool.{cases_lt, or_from}
 use Rattle.std.proofs.lemmas.Bool.Decides.{Decides-below_or}
 use Rattle.fabric.specs.Options.{allowed}
-use Rattle.fabric.specs.Search.{some_below, or_else, first_fail}
+use Rattle.fabric.specs.Search.{some_below, first_fail}
 use Rattle.fabric.specs.Optional.{nothing}
 
 -- a test that passes somewhere, and one that passes nowhere
@@ -20,8 +21,8 @@ module _ (test : ℕ → Bool) (n : ℕ) where
 
 -- the first place at which a test fails
 module _ (test : ℕ → Bool) where
-  one_more : (n : ℕ) (o : Option ℕ) (t : Bool) → first_fail test n ≡ o → test n ≡ t → first_fail test (suc n) ≡ or_else o (allowed (not t) n)
-  one_more n o t e f = ap (λ x. or_else x (allowed (not (test n)) n)) e ∙ ap (λ b. or_else o (allowed (not b) n)) f
+  one_more : (n : ℕ) (o : Option ℕ) (t : Bool) → first_fail test n ≡ o → test n ≡ t → first_fail test (suc n) ≡ option_or o (allowed (not t) n)
+  one_more n o t e f = ap (λ x. option_or x (allowed (not (test n)) n)) e ∙ ap (λ b. option_or o (allowed (not b) n)) f
 
   pub first_more : (n : ℕ) → first_fail test n ≡ None → test n ≡ true → first_fail test (n + 1) ≡ None
   first_more n e t = ap (first_fail test) (add-one n) ∙ one_more n None true e t
@@ -34,7 +35,7 @@ module _ (test : ℕ → Bool) where
       (λ l. let s : i ≡ n = omega arith in subst (λ k. first_fail test (suc k) ≡ Some i) s (one_more i None false e f))
       (cases_lt i n)
 
-  both : (o : Option ℕ) (t : Bool) (n : ℕ) → or_else o (allowed (not t) n) ≡ None → (o ≡ None) × (t ≡ true)
+  both : (o : Option ℕ) (t : Bool) (n : ℕ) → option_or o (allowed (not t) n) ≡ None → (o ≡ None) × (t ≡ true)
   both None true n e = (refl, refl)
   both None false n e = absurd (nothing (sym e))
   both (Some x) t n e = absurd (nothing (sym e))

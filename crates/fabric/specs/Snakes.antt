@@ -1,10 +1,10 @@
 -- The snake-labelled mesh is a lawful fabric, and its addresses are all different.
 use Rattle.std.specs.Prelude.{◌≡◌, ℕ, zero, suc, ◌+◌, ◌-◌, ◌*◌, ◌/◌, ◌%◌, ◌^◌, ◌<◌, ◌≤◌, Bool, true, false, cond, ◌&&◌, ◌⊎◌, Some, None, Ok, Err, Option, Result, ◌==◌, nat_le, nat_lt, refl}
+use Rattle.std.specs.Option.{option_map}
 use Rattle.std.proofs.Common.{sym, ap, ap₂, subst, ◌∙◌, inl, inr, ⊎_elim, arith}
 use Rattle.std.proofs.lemmas.Nat.{div-add-mod', div-mul-add, mod-mul-add, mul-add-lt, div_below, mod_below, mul-le}
 use Rattle.std.proofs.lemmas.Bool.{cases_lt, both_ways, ltb-true, lt-ltb, leb-true, eq-eqb, ne_eqb, cond-true, cond-false, and_from, and_parts}
 use Rattle.fabric.specs.Fabrics.{Lawful, label_with}
-use Rattle.fabric.specs.Options.{each}
 use Rattle.fabric.specs.Steps.{BySteps}
 use Rattle.fabric.specs.Snake.{Shape, shape_of, Place, inside, turned, label_at, label_of, place_at, place_of, Placed, beside, mesh_near, address_at, place_with, mesh_addresses}
 use Rattle.fabric.specs.Coding.{label_found, label_none}
@@ -198,8 +198,8 @@ module _ (rows n : ℕ) where
         let h = at_place k a e in
         let i = (reaches p a b h.2 (moves p a b (sym f))).1 in
         label_inside b i
-        ∙ ap (each (label_at n)) (f ∙ ap (λ c. beside rows n c p) (sym h.1))
-        ∙ sym (cond-true (nat_lt k (rows * n)) (each (label_at n) (beside rows n (place_at n k) p)) None (lt-ltb k (rows * n) h.0))
+        ∙ ap (option_map (label_at n)) (f ∙ ap (λ c. beside rows n c p) (sym h.1))
+        ∙ sym (cond-true (nat_lt k (rows * n)) (option_map (label_at n) (beside rows n (place_at n k) p)) None (lt-ltb k (rows * n) h.0))
 
     pub one_address : (a b : Place) → In a → In b → address_at a ≡ address_at b → a ≡ b
     one_address a b i j e = let w = narrow rows n shape in pair a b (omega arith) (omega arith)

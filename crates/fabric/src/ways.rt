@@ -1,6 +1,6 @@
 //! The way from a node to another hop by hop, and its length, on any fabric.
 ghost use Rattle.std.specs.Prelude.{◌≡◌};
-ghost use Rattle.fabric.specs.Options.{each};
+ghost use Rattle.std.specs.Option.{option_map};
 ghost use Rattle.fabric.specs.Way.{labels_of, hops_in, way_of, Travelled, length_of, Measured};
 
 use crate::hops::{both_exist, hop};
@@ -18,10 +18,10 @@ impl Path {
 
 /// The labels on the way from a node to another, or none where one of them does not exist.
 pub fn way<F: Fabric>(fabric: &F, from: u8, to: u8) -> Option<Path>
-    ensures is { each labels_of result ≡ way_of (F.Fabric.nodes fabric.now) (F.Fabric.near fabric.now) from to }
-    ensures law { Travelled (F.Fabric.nodes fabric.now) (F.Fabric.near fabric.now) from to (each labels_of result) }
-    ensures hops { each hops_in result ≡ length_of (F.Fabric.nodes fabric.now) (F.Fabric.near fabric.now) from to }
-    ensures measured { Measured (F.Fabric.nodes fabric.now) (F.Fabric.near fabric.now) from to (each hops_in result) }
+    ensures is { option_map labels_of result ≡ way_of (F.Fabric.nodes fabric.now) (F.Fabric.near fabric.now) from to }
+    ensures law { Travelled (F.Fabric.nodes fabric.now) (F.Fabric.near fabric.now) from to (option_map labels_of result) }
+    ensures hops { option_map hops_in result ≡ length_of (F.Fabric.nodes fabric.now) (F.Fabric.near fabric.now) from to }
+    ensures measured { Measured (F.Fabric.nodes fabric.now) (F.Fabric.near fabric.now) from to (option_map hops_in result) }
 {
     if !both_exist(fabric, from, to) {
         return None;
