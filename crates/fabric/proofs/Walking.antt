@@ -1,6 +1,5 @@
 -- A walk by hops ends at its target, and the way is the only list of labels that leads there by hops.
-use Rattle.std.proofs.Common.{◌≡◌, ℕ, zero, suc, ◌+◌, ◌<◌, ◌≤◌, true, List, [], ◌∷◌, ◌++◌, length, take, set, Some, None, Option, sym, refl, ap, ◌∙◌, ⊎_elim, append_assoc, append-nil, arith, length-set}
-use Rattle.std.proofs.lemmas.List.{take_more_set}
+use Rattle.std.proofs.Common.{◌≡◌, ℕ, zero, suc, ◌-◌, ◌<◌, ◌≤◌, true, List, [], ◌∷◌, ◌++◌, length, Some, None, Option, sym, refl, ap, ◌∙◌, ⊎_elim, append_assoc, append-nil, arith, length-append}
 use Rattle.std.proofs.lemmas.Bool.{cond-true, cases_eq}
 use Rattle.fabric.specs.Fabrics.{Near, Lawful}
 use Rattle.fabric.specs.Hop.{distance, exist, hop_of}
@@ -99,73 +98,54 @@ module _ (nodes : ℕ) (near : Near) (law : Lawful nodes near) (u v : ℕ) where
     only = λ k e. let x = known nodes u v (length (hops_of nodes near u v)) k e in (x.0, x.1);
   }
 
-  -- what the code owes of a path, from its labels and the number of its hops
-  pub walked_as : (ws : List ℕ) (k : ℕ) → exist nodes u v ≡ true → ws ≡ u ∷ hops_of nodes near u v → k ≡ length (hops_of nodes near u v) → record { is : Some ws ≡ way_of nodes near u v; law : Travelled nodes near u v (Some ws); hops : Some k ≡ length_of nodes near u v; measured : Measured nodes near u v (Some k) }
-  walked_as ws k h e f =
-      let way = with_law (Travelled nodes near u v) _ way_law (Some ws) (ap Some e ∙ sym (cond-true (exist nodes u v) _ None h)) in
-      let long = with_law (Measured nodes near u v) _ length_law (Some k) (ap Some f ∙ sym (cond-true (exist nodes u v) _ None h)) in
+  -- what the code owes of a path, from its labels
+  pub walked_as : (xs : List ℕ) → exist nodes u v ≡ true → xs ≡ u ∷ hops_of nodes near u v → record { is : Some xs ≡ way_of nodes near u v; law : Travelled nodes near u v (Some xs); hops : Some (length xs - 1) ≡ length_of nodes near u v; measured : Measured nodes near u v (Some (length xs - 1)) }
+  walked_as xs h e =
+      let one_less : length xs - 1 ≡ length (hops_of nodes near u v) = omega (arith, ap length e) in
+      let way = with_law (Travelled nodes near u v) _ way_law (Some xs) (ap Some e ∙ sym (cond-true (exist nodes u v) _ None h)) in
+      let long = with_law (Measured nodes near u v) _ length_law (Some (length xs - 1)) (ap Some one_less ∙ sym (cond-true (exist nodes u v) _ None h)) in
       record { is = way.is; law = way.law; hops = long.is; measured = long.law }
 
--- The loop of a walk: the labels and hops so far, and those still to come, make the whole way.
-pub record Walked (nodes : ℕ) (near : Near) (u v at hops : ℕ) (labels : List ℕ) : Type 0 where
+-- The loop of a walk: the labels so far, and those still to come, make the whole way.
+pub record Walked (nodes : ℕ) (near : Near) (u v at : ℕ) (xs : List ℕ) : Type 0 where
   pub here : at < nodes
-  pub room : length labels ≡ 128
-  pub count : hops + length (hops_of nodes near at v) ≡ length (hops_of nodes near u v)
-  pub whole : take (hops + 1) labels ++ hops_of nodes near at v ≡ u ∷ hops_of nodes near u v
+  pub some : 1 ≤ length xs
+  pub whole : xs ++ hops_of nodes near at v ≡ u ∷ hops_of nodes near u v
 
--- A turn of it: there is room for the next label, which is nearer to the target, and with it the walk goes on.
-pub record Turn (nodes : ℕ) (near : Near) (u v at hops : ℕ) (labels : List ℕ) (next : ℕ) : Type 0 where
-  pub free : hops + 1 < 128
-  pub less : distance next v < distance at v
-  pub further : Walked nodes near u v next (hops + 1) (set labels (hops + 1) next)
-
-module _ (nodes : ℕ) (near : Near) (law : Lawful nodes near) (u v : ℕ) (known : exist nodes u v ≡ true) (at hops : ℕ) (labels : List ℕ) (so_far : Walked nodes near u v at hops labels) where
-  start : u < nodes
-  start = (true_exist nodes u v known).0
-
+module _ (nodes : ℕ) (near : Near) (law : Lawful nodes near) (u v : ℕ) (known : exist nodes u v ≡ true) (at : ℕ) (xs : List ℕ) (so_far : Walked nodes near u v at xs) where
   aim : v < nodes
   aim = (true_exist nodes u v known).1
-
-  -- a way has at most 127 hops
-  pub walked_short : hops ≤ 127
-  walked_short =
-      let few = law.bounded in
-      let long = (hops_lead nodes near law v aim u start).1 in
-      omega (arith, so_far.count, start, aim)
 
   module _ (next : ℕ) (e : Some next ≡ hop_of nodes near at v) where
     on : hops_of nodes near at v ≡ next ∷ hops_of nodes near next v
     on = hops_on nodes near law v aim at next so_far.here (sym e)
 
-    free : hops + 1 < 128
-    free =
+    -- a way has at most 127 hops, so there is room for the next label
+    pub room : length xs < 128
+    room =
         let few = law.bounded in
-        let long = (hops_lead nodes near law v aim u start).1 in
-        omega (arith, so_far.count, start, aim, ap length on)
+        let start = (true_exist nodes u v known).0 in
+        let short = (hops_lead nodes near law v aim u start).1 in
+        omega (arith, aim, start, ap length so_far.whole, length-append xs (hops_of nodes near at v), ap length on)
 
-    further : Walked nodes near u v next (hops + 1) (set labels (hops + 1) next)
-    further =
-        let room : hops + 1 < length labels = omega (arith, free, so_far.room) in
-        record {
-          here = (nearer nodes near law v aim at next (sym e)).0;
-          room = length-set labels (hops + 1) next ∙ so_far.room;
-          count = omega (arith, so_far.count, ap length on);
-          whole =
-              ap (λ xs. xs ++ hops_of nodes near next v) (take_more_set labels (hops + 1) next room)
-              ∙ append_assoc (take (hops + 1) labels) (next ∷ []) (hops_of nodes near next v)
-              ∙ ap (λ xs. take (hops + 1) labels ++ xs) (sym on)
-              ∙ so_far.whole;
-        }
+    -- it is nearer to the target
+    pub less : distance next v < distance at v
+    less = (nearer nodes near law v aim at next (sym e)).1
 
-    pub walked_on : Turn nodes near u v at hops labels next
-    walked_on = record { free = free; less = (nearer nodes near law v aim at next (sym e)).1; further = further }
+    -- and with it the walk goes on
+    pub further : (ys : List ℕ) → ys ≡ xs ++ next ∷ [] → Walked nodes near u v next ys
+    further ys f = record {
+      here = (nearer nodes near law v aim at next (sym e)).0;
+      some = omega (arith, ap length f, length-append xs (next ∷ []));
+      whole =
+          ap (λ zs. zs ++ hops_of nodes near next v) f
+          ∙ append_assoc xs (next ∷ []) (hops_of nodes near next v)
+          ∙ ap (λ zs. xs ++ zs) (sym on)
+          ∙ so_far.whole;
+    }
 
-  module _ (e : None ≡ hop_of nodes near at v) where
-    done : hops_of nodes near at v ≡ []
-    done = hops_stay nodes near law v aim at so_far.here (sym e)
-
-    pub walked_labels : take (hops + 1) labels ≡ u ∷ hops_of nodes near u v
-    walked_labels = sym (append-nil (take (hops + 1) labels)) ∙ ap (λ xs. take (hops + 1) labels ++ xs) (sym done) ∙ so_far.whole
-
-    pub walked_hops : hops ≡ length (hops_of nodes near u v)
-    walked_hops = omega (arith, so_far.count, ap length done)
+  -- where there is no hop the labels are the way
+  pub arrived_at : None ≡ hop_of nodes near at v → xs ≡ u ∷ hops_of nodes near u v
+  arrived_at e =
+      let done = hops_stay nodes near law v aim at so_far.here (sym e) in
+      sym (append-nil xs) ∙ ap (λ zs. xs ++ zs) (sym done) ∙ so_far.whole

@@ -3,16 +3,15 @@ use Rattle.std.specs.Prelude.{◌≡◌, ℕ, zero, suc, ◌+◌, ◌-◌, ◌*�
 use Rattle.std.specs.Option.{option_map, option_or}
 use Rattle.std.proofs.Math.Path.{refl, subst}
 use Rattle.std.proofs.Common.{sym, ap, ◌∙◌, ⊎_elim, inl, inr, arith}
-use Rattle.std.proofs.lemmas.Bool.{true≢false, both_ways, cases_lt, cond-true, not-true, leb-true, le-leb}
-use Rattle.std.proofs.lemmas.Bool.Decides.{Decides-and, Decides-or, Decides-not, Decides-like, Decides-eqb, Decides-ltb, Decides-below_or}
+use Rattle.std.proofs.lemmas.Bool.{true≢false, both_ways, cases_lt, cond-true, leb-true, le-leb}
+use Rattle.std.proofs.lemmas.Bool.Decides.{Decides-and, Decides-or, Decides-not, Decides-like, Decides-eqb, Decides-ltb}
 use Rattle.fabric.specs.Chart.{records_of, whole, port_at, address_at, Whole}
 use Rattle.fabric.specs.Check.{question_number, names, taken, passes, passes_at, Fault, fault_at, found, sweep, questions, fault, Passes, FirstFault}
-use Rattle.fabric.specs.Options.{allowed}
-use Rattle.fabric.specs.Search.{some_below, first_fail}
+use Rattle.fabric.specs.Search.{first_fail}
 use Rattle.fabric.specs.declared.questions.Question.{Question}
 use Rattle.fabric.specs.declared.questions.Question.TheVariants.{Exists, Other, New, Mutual, Address, Next}
-use Rattle.fabric.specs.Optional.{nothing, allowed_is, each_is, each_none}
-use Rattle.fabric.specs.Searching.{first_none, none_first}
+use Rattle.fabric.specs.Optional.{each_is, each_none}
+use Rattle.fabric.specs.Searching.{below_decides, first_some, first_none, none_first}
 
 -- ---- the tests, and what they ask in plain terms
 
@@ -28,12 +27,10 @@ whole_decides b =
 
 -- a label among the first ports of a record
 named_decides : (b : List ℕ) (k v n : ℕ) → Decides (names b k v n) ((q : ℕ) × (q < n) × (port_at b k q ≡ v))
-named_decides b k v n = Decides-below_or (λ q. nat_eq (port_at b k q) v) (λ q. port_at b k q ≡ v) (names b k v) (λ q. Decides-eqb (port_at b k q) v) refl (λ _. refl) n
+named_decides b k v n = below_decides (λ q. nat_eq (port_at b k q) v) (λ q. Decides-eqb (port_at b k q) v) n
 
 taken_decides : (b : List ℕ) (k : ℕ) → Decides (taken b k) ((j : ℕ) × (j < k) × (address_at b j ≡ address_at b k))
-taken_decides b k =
-    let same_address : ℕ → Bool = λ j. nat_eq (address_at b j) (address_at b k) in
-    Decides-below_or same_address (λ j. address_at b j ≡ address_at b k) (some_below same_address) (λ j. Decides-eqb (address_at b j) (address_at b k)) refl (λ _. refl) k
+taken_decides b k = below_decides (λ j. nat_eq (address_at b j) (address_at b k)) (λ j. Decides-eqb (address_at b j) (address_at b k)) k
 
 -- none is found exactly where each is another
 none_decides : {t : Bool} {n : ℕ} {P : ℕ → Type 0} → Decides t ((q : ℕ) × (q < n) × P q) → Decides (not t) ((q : ℕ) → q < n → P q → ⊥)
@@ -65,24 +62,6 @@ abbrev pub TestsPass : List ℕ → Question → Type 0
 TestsPass b q = (k p : ℕ) → k < records_of b → p < 8 → passes q b k p ≡ true
 
 -- ---- the first fault
-
--- i is the first place below n at which a test fails: it fails there, and at none before
-abbrev FirstAt : (ℕ → Bool) → ℕ → ℕ → Type 0
-FirstAt test n i = (i < n) × (test i ≡ false) × ((j : ℕ) → j < i → test j ≡ true)
-
-first_some : (test : ℕ → Bool) (n i : ℕ) → first_fail test n ≡ Some i → FirstAt test n i
-first_some test zero i e = absurd (nothing e)
-first_some test (suc n) i e = decide (first_fail test n) refl (first_some test n i) e
-  where
-    decide : (o : Option ℕ) → first_fail test n ≡ o → (first_fail test n ≡ Some i → FirstAt test n i) → option_or o (allowed (not (test n)) n) ≡ Some i → FirstAt test (suc n) i
-    decide None f before g =
-        let a = allowed_is (not (test n)) g in
-        let last = a.1 in
-        (omega arith, ap test (sym last) ∙ not-true (test n) a.0, λ j l. first_none test n f j (omega arith))
-    decide (Some x) f before g =
-        let r = before (f ∙ g) in
-        let l = r.0 in
-        (omega arith, r.1, r.2)
 
 -- a place, by its record and its port
 at_place : (b : List ℕ) (q : Question) (t : Bool) (k p : ℕ) → p < 8 → passes_at q b (8 * k + p) ≡ t → passes q b k p ≡ t

@@ -1,9 +1,8 @@
 -- A chart: records of 12 bytes, each an address and the neighbours through the ports; and the fabric that it gives.
-use Rattle.std.specs.Prelude.{◌≡◌, ℕ, ◌+◌, ◌*◌, ◌/◌, ◌%◌, ◌<◌, ◌≤◌, Bool, cond, not, ◌&&◌, ◌≢◌, ◌↔◌, List, [], ◌∷◌, map, length, Some, None, Option, ◌==◌, nat_le, nat_lt, slice_index}
-use Rattle.std.specs.List.{range_with_len}
+use Rattle.std.specs.Prelude.{◌≡◌, ℕ, ◌+◌, ◌*◌, ◌/◌, ◌%◌, ◌<◌, ◌≤◌, Bool, cond, not, ◌&&◌, ◌≢◌, ◌↔◌, List, [], ◌∷◌, find, map, length, Some, None, Option, ◌==◌, nat_le, nat_lt, slice_index}
+use Rattle.std.specs.List.{range_with_len, list_all}
 use Rattle.fabric.specs.Fabrics.{Near, Lawful, AllDifferent}
 use Rattle.fabric.specs.Options.{allowed}
-use Rattle.fabric.specs.Search.{some_below}
 
 -- the records in a string of bytes
 abbrev pub records_of : List ℕ → ℕ
@@ -17,17 +16,25 @@ whole b = length b % 12 == 0 && nat_le 1 (records_of b) && nat_le (records_of b)
 unfoldable pub port_at : List ℕ → ℕ → ℕ → ℕ
 port_at b k p = slice_index b (12 * k + 4 + p)
 
+-- the label that record k names at port p
+abbrev pub named_at : List ℕ → ℕ → ℕ → Option ℕ
+named_at b k p = allowed (not (port_at b k p == 255)) (port_at b k p)
+
 -- the address in record k, most significant byte first
 unfoldable pub address_at : List ℕ → ℕ → ℕ
 address_at b k = ((slice_index b (12 * k) * 256 + slice_index b (12 * k + 1)) * 256 + slice_index b (12 * k + 2)) * 256 + slice_index b (12 * k + 3)
 
 -- the neighbour through a port of a record
 abbrev pub chart_near : List ℕ → Near
-chart_near b u p = cond (nat_lt u (records_of b) && nat_lt p 8) (allowed (not (port_at b u p == 255)) (port_at b u p)) None
+chart_near b u p = cond (nat_lt u (records_of b) && nat_lt p 8) (named_at b u p) None
 
 -- the addresses, record by record
 abbrev pub chart_addresses : List ℕ → List ℕ
 chart_addresses b = map (address_at b) (range_with_len 0 (records_of b))
+
+-- the first record that has an address
+abbrev pub record_with : List ℕ → ℕ → Option ℕ
+record_with b a = find (λ k. address_at b k == a) (range_with_len 0 (records_of b))
 
 -- In plain terms: the answer is v exactly where there is such a record and port, and the port holds v, which is not 255.
 abbrev pub Recorded : List ℕ → ℕ → ℕ → Option ℕ → Type 0
@@ -47,7 +54,7 @@ pub record Charted (b : List ℕ) : Type 0 where
 
 -- every byte has at most 8 bits
 unfoldable pub octets : List ℕ → Bool
-octets b = not (some_below (λ i. nat_le 256 (slice_index b i)) (length b))
+octets b = list_all (λ x. nat_lt x 256) b
 
 -- the chart of one node, with address 0
 abbrev pub alone : List ℕ

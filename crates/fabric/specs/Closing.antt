@@ -1,21 +1,20 @@
 -- A fabric without some of its links is lawful, since the chain stays; and what closing a link does.
-use Rattle.std.specs.Prelude.{◌≡◌, ℕ, ◌+◌, ◌<◌, ◌≤◌, Bool, true, false, not, ◌&&◌, ◌||◌, ◌⊎◌, ◌↔◌, List, [], ◌∷◌, ◌++◌, length, take, drop, Some, None, Decides, Option, ◌==◌, nat_lt, slice_index_or, slice_set, refl}
+use Rattle.std.specs.Prelude.{◌≡◌, ℕ, ◌+◌, ◌<◌, ◌≤◌, Bool, true, not, ◌&&◌, ◌⊎◌, ◌↔◌, List, [], ◌∷◌, ◌++◌, length, Some, None, Decides, Option, ◌==◌, nat_lt, refl}
 use Rattle.std.proofs.Common.{sym, ap, ap₂, subst, ◌∙◌, inl, inr, ⊎_elim, arith}
-use Rattle.std.proofs.lemmas.List.{at_drop_more, at_drop_all, take_more_set, length-take-le}
 use Rattle.std.proofs.lemmas.Bool.{false≢true, ltb-true, leb-true, le-leb, and_from, and_parts, cond-true}
-use Rattle.std.proofs.lemmas.Bool.Decides.{Decides-eqb, Decides-and, Decides-or, Decides-not, Decides-like, Decides-ltb, Decides-below_or}
+use Rattle.std.proofs.lemmas.Bool.Decides.{Decides-eqb, Decides-and, Decides-or, Decides-not, Decides-like, Decides-ltb}
 use Rattle.fabric.specs.Fabrics.{Near, Neighbours, Lawful}
 use Rattle.fabric.specs.Hop.{distance, exist}
 use Rattle.fabric.specs.Links.{Link, apart, all_apart, joins, holds, unless_closed, thinned, is_at, neighbours, close_refusal, closed_after, Joins, IsClosed, Thinned, Closes}
 use Rattle.fabric.specs.Questions.{Asks, Granted}
 use Rattle.fabric.specs.Answering.{asks, yes_to}
-use Rattle.fabric.specs.Search.{some_below}
 use Rattle.fabric.specs.Optional.{nothing, same, allowed_is, with_law}
+use Rattle.fabric.specs.Searching.{below_decides}
 
 -- ---- a list of links
 
 -- one link more that is two or more apart
-apart_more : (ls : List Link) (l : Link) → all_apart ls ≡ true → apart l ≡ true → all_apart (ls ++ l ∷ []) ≡ true
+pub apart_more : (ls : List Link) (l : Link) → all_apart ls ≡ true → apart l ≡ true → all_apart (ls ++ l ∷ []) ≡ true
 apart_more [] l h e = and_from (apart l) true e refl
 apart_more (k ∷ ls) l h e = let p = and_parts (apart k) (all_apart ls) h in and_from (apart k) (all_apart (ls ++ l ∷ [])) p.0 (apart_more ls l p.1 e)
 
@@ -65,14 +64,6 @@ closed_more (k ∷ ls) l u v =
       ⊎_elim (⊎_elim inl (λ c. inr (r.1 (inl c)))) (λ j. inr (r.1 (inr j))),
     )
 
--- a list of 64 places, of which the first n are used, with one link more
-module _ (links : List Link) (n : ℕ) (room : length links ≡ 64) (fits : n ≤ 64) where
-  pub used : length (take n links) ≡ n
-  used = length-take-le n links (omega arith)
-
-  pub add_keeps : (l : Link) → n < 64 → all_apart (take n links) ≡ true → apart l ≡ true → all_apart (take (n + 1) (slice_set links n l)) ≡ true
-  add_keeps l h spared e = ap all_apart (take_more_set links n l (omega arith)) ∙ apart_more (take n links) l spared e
-
 -- ---- the neighbours that stay
 
 module _ (ls : List Link) (near : Near) where
@@ -113,24 +104,7 @@ all_open near u p = go (near u p)
     go None = refl
     go (Some v) = refl
 
--- ---- the searches
-
--- a loop over the links: the link at i, and the rest
-module _ (ls : List Link) (u v i : ℕ) (within : i < length ls) where
-  abbrev at_i : Link
-  at_i = slice_index_or ls i (0, 0)
-
-  holds_at : (t : Bool) → joins at_i u v ≡ t → holds (drop i ls) u v ≡ (t || holds (drop (i + 1) ls) u v)
-  holds_at t e = at_drop_more (λ s. holds s u v) ls i (0, 0) within ∙ ap (λ b. b || holds (drop (i + 1) ls) u v) e
-
-  pub holds_turn : joins at_i u v ≡ false → holds (drop i ls) u v ≡ holds (drop (i + 1) ls) u v
-  holds_turn = holds_at false
-
-  pub holds_here : joins at_i u v ≡ true → holds (drop i ls) u v ≡ true
-  holds_here = holds_at true
-
-pub holds_end : (ls : List Link) (u v i : ℕ) → length ls ≤ i → holds (drop i ls) u v ≡ false
-holds_end ls u v i past = at_drop_all (λ s. holds s u v) ls i past
+-- ---- neighbours that a port leads to
 
 is_at_decides : (v : ℕ) (o : Option ℕ) → Decides (is_at v o) (o ≡ Some v)
 is_at_decides v None = ((λ e. absurd (false≢true e)), (λ e. absurd (nothing e)))
@@ -141,7 +115,7 @@ neighbours_decides : (nodes : ℕ) (near : Near) → Lawful nodes near → (u v 
 neighbours_decides nodes near law u v =
     let leads : ℕ → Bool = λ p. is_at v (near u p) in
     Decides-like _ (λ k. (k.0, k.2)) (λ n. (n.0, (law.within u n.0 v n.1).1, n.1))
-    (Decides-below_or leads (λ p. near u p ≡ Some v) (some_below leads) (λ p. is_at_decides v (near u p)) refl (λ _. refl) 8)
+    (below_decides leads (λ p. is_at_decides v (near u p)) 8)
 
 -- ---- closing a link
 

@@ -2,6 +2,6 @@
 use Rattle.std.specs.Prelude.{ℕ, List, take}
 use Rattle.fabric.specs.declared.charts.Chart.{Chart}
 
--- its bytes: the used part of its memory
+-- its bytes
 abbrev pub bytes_of : Chart → List ℕ
-bytes_of c = take c.used c.bytes
+bytes_of c = take c.bytes.used c.bytes.memory

@@ -180,8 +180,8 @@ module _ (nodes : ℕ) (near : Near) (law : Lawful nodes near) (u v : ℕ) where
   no_hop out (Some w) f = let o = only w f in absurd (out o.0 o.1 o.2)
 
   -- what the code answers: what it picked among labels that exist, and else none
-  pub hop_end : (r : Option Exit) (exits : List Exit) → exist nodes u v ≡ true → r ≡ picked leads_onward labels_short exits → exits ≡ exits_of near u v → record { is : end r ≡ hop_of nodes near u v; law : Hopped nodes near u v (end r) }
-  hop_end r exits h e f = with_law (Hopped nodes near u v) _ hop_law (end r) (ap end (e ∙ ap (picked leads_onward labels_short) f) ∙ sym (hop_is h))
+  pub hop_end : (answer : Option ℕ) (r : Option Exit) (exits : List Exit) → exist nodes u v ≡ true → answer ≡ end r → r ≡ picked leads_onward labels_short exits → exits ≡ exits_of near u v → record { is : answer ≡ hop_of nodes near u v; law : Hopped nodes near u v answer }
+  hop_end answer r exits h d e f = with_law (Hopped nodes near u v) _ hop_law answer (d ∙ ap end (e ∙ ap (picked leads_onward labels_short) f) ∙ sym (hop_is h))
 
   pub hop_none : exist nodes u v ≡ false → record { is : None ≡ hop_of nodes near u v; law : Hopped nodes near u v None }
   hop_none e = with_law (Hopped nodes near u v) _ hop_law None (sym (hop_missing e))

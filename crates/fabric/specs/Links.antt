@@ -1,5 +1,6 @@
 -- Closed links, and a fabric without them.
-use Rattle.std.specs.Prelude.{◌≡◌, ℕ, ◌<◌, ◌≤◌, Bool, true, false, not, ◌&&◌, ◌||◌, ◌⊎◌, ◌↔◌, List, [], ◌∷◌, ◌++◌, length, Some, None, Option, ◌==◌, nat_le, nat_lt}
+use Rattle.std.specs.Prelude.{◌≡◌, ℕ, ◌<◌, ◌≤◌, Bool, false, not, ◌&&◌, ◌||◌, ◌⊎◌, ◌↔◌, List, [], ◌∷◌, ◌++◌, length, Some, None, Option, ◌==◌, nat_le, nat_lt}
+use Rattle.std.specs.List.{list_any, list_all}
 use Rattle.fabric.specs.Fabrics.{Near, Neighbours}
 use Rattle.fabric.specs.Hop.{distance, exist}
 use Rattle.fabric.specs.Options.{allowed}
@@ -15,8 +16,7 @@ abbrev pub apart : Link → Bool
 apart l = nat_le 2 (distance l.0 l.1)
 
 abbrev pub all_apart : List Link → Bool
-all_apart [] = true
-all_apart (l ∷ ls) = apart l && all_apart ls
+all_apart ls = list_all apart ls
 
 -- the link joins the two labels, in either order
 abbrev pub joins : Link → ℕ → ℕ → Bool
@@ -24,8 +24,7 @@ joins l u v = (l.0 == u && l.1 == v) || (l.0 == v && l.1 == u)
 
 -- one of the links does
 abbrev pub holds : List Link → ℕ → ℕ → Bool
-holds [] u v = false
-holds (l ∷ ls) u v = joins l u v || holds ls u v
+holds ls u v = list_any (λ l. joins l u v) ls
 
 -- a neighbour, unless one of the links leads there
 abbrev pub unless_closed : List Link → ℕ → Option ℕ → Option ℕ

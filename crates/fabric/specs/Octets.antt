@@ -1,36 +1,24 @@
 -- Bytes below 256, and a number of 32 bits as four of them.
-use Rattle.std.specs.Prelude.{◌≡◌, ℕ, zero, suc, ◌+◌, ◌*◌, ◌/◌, ◌%◌, ◌^◌, ◌<◌, true, List, length, nat_le, slice_index}
+use Rattle.std.specs.Prelude.{◌≡◌, ℕ, zero, suc, ◌+◌, ◌*◌, ◌/◌, ◌%◌, ◌^◌, ◌<◌, true, List, [], ◌∷◌, nat_lt, slice_index, refl}
+use Rattle.std.specs.List.{list_all}
 use Rattle.std.proofs.Math.Path.{ap}
-use Rattle.std.proofs.Common.{⊎_elim}
 use native.Mathlib.Omega.{arith}
-use Rattle.std.proofs.lemmas.List.{get_or_past}
-use Rattle.std.proofs.lemmas.Bool.{both_ways, cases_lt, leb-true, le-leb, not-true}
+use Rattle.std.proofs.lemmas.Bool.{and_from, and_parts, ltb-true, lt-ltb}
 use Rattle.fabric.specs.Chart.{records_of, address_at, chart_addresses, octets}
 use Rattle.fabric.specs.Copy.{address_byte}
 use Rattle.fabric.specs.Fabrics.{AllFit}
-use Rattle.fabric.specs.Search.{some_below}
-use Rattle.fabric.specs.Charting.{never}
 use Rattle.fabric.specs.Counting.{counted_nth}
-use Rattle.fabric.specs.Searching.{below_hit, below_found}
 
 pub octets_from : (b : List ℕ) → ((i : ℕ) → slice_index b i < 256) → octets b ≡ true
 unfolding octets
-octets_from b h =
-    never (some_below (λ i. nat_le 256 (slice_index b i)) (length b)) (λ t.
-    let r = below_found (λ i. nat_le 256 (slice_index b i)) (length b) t in
-    omega (arith, leb-true 256 (slice_index b r.0) r.2, h r.0))
+octets_from [] h = refl
+octets_from (x ∷ b) h = and_from (nat_lt x 256) (list_all (λ y. nat_lt y 256) b) (lt-ltb x 256 (h 0)) (octets_from b (λ i. h (suc i)))
 
 pub octet : (b : List ℕ) → octets b ≡ true → (i : ℕ) → slice_index b i < 256
 unfolding octets
-octet b e i = ⊎_elim inside (λ h. let z = get_or_past b i 0 h in omega arith) (cases_lt i (length b))
-  where
-    inside : i < length b → slice_index b i < 256
-    inside l =
-        let large = some_below (λ i. nat_le 256 (slice_index b i)) (length b) in
-        ⊎_elim
-        (λ h. h)
-        (λ h. absurd (both_ways large (not-true large e) (below_hit (λ i. nat_le 256 (slice_index b i)) (length b) i l (le-leb 256 (slice_index b i) h))))
-        (cases_lt (slice_index b i) 256)
+octet [] e i = omega arith
+octet (x ∷ b) e zero = ltb-true x 256 (and_parts (nat_lt x 256) (list_all (λ y. nat_lt y 256) b) e).0
+octet (x ∷ b) e (suc i) = octet b (and_parts (nat_lt x 256) (list_all (λ y. nat_lt y 256) b) e).1 i
 
 -- the bytes of a number make the number
 pub four_bytes : (a : ℕ) → a < 2 ^ 32 → ((a / 16777216 % 256 * 256 + a / 65536 % 256) * 256 + a / 256 % 256) * 256 + a / 1 % 256 ≡ a

@@ -1,18 +1,14 @@
 -- The choice of the eligible entry of least rank, the earliest on a tie.
-use Rattle.std.specs.Prelude.{◌≡◌, ℕ, ◌<◌, ◌≤◌, Bool, true, cond, List, [], ◌∷◌, Some, None, Option, ◌≢◌, nat_le}
-use Rattle.std.specs.List.{slice_get}
-use Rattle.fabric.specs.Options.{allowed}
+use Rattle.std.specs.Prelude.{◌≡◌, ℕ, ◌<◌, ◌≤◌, Bool, true, cond, List, filter, Some, None, Option, ◌≢◌, nat_le}
+use Rattle.std.specs.List.{slice_get, reduce}
 
 -- the one of lesser rank, the first on a tie
-abbrev pub better : {A : Type 0} → (A → ℕ) → Option A → Option A → Option A
-better rank None b = b
-better rank (Some x) None = Some x
-better rank (Some x) (Some y) = cond (nat_le (rank x) (rank y)) (Some x) (Some y)
+abbrev pub better : {A : Type 0} → (A → ℕ) → A → A → A
+better rank x y = cond (nat_le (rank x) (rank y)) x y
 
--- the best of a list: its first entry, if eligible, or the best of the others
+-- of the eligible entries, one after another, the better one is kept
 abbrev pub picked : {A : Type 0} → (A → Bool) → (A → ℕ) → List A → Option A
-picked eligible rank [] = None
-picked eligible rank (x ∷ xs) = better rank (allowed (eligible x) x) (picked eligible rank xs)
+picked eligible rank xs = reduce (better rank) (filter eligible xs)
 
 -- In plain terms: the entry stands in the list and is eligible, nothing eligible ranks lower, and nothing eligible before it ranks the same.
 pub record Chosen {A : Type 0} (eligible : A → Bool) (rank : A → ℕ) (xs : List A) (x : A) : Type 0 where

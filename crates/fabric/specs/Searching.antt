@@ -1,52 +1,80 @@
--- What a search over the numbers below a bound finds, and the turns of a loop that makes it.
-use Rattle.std.specs.Prelude.{◌≡◌, ℕ, zero, suc, ◌+◌, ◌<◌, Bool, true, false, not, Some, None, Option, refl}
-use Rattle.std.specs.Option.{option_or}
-use Rattle.std.proofs.Common.{sym, ap, subst, ◌∙◌, ⊎_elim, arith, add-one}
-use Rattle.std.proofs.lemmas.Bool.{cases_lt, or_from}
-use Rattle.std.proofs.lemmas.Bool.Decides.{Decides-below_or}
-use Rattle.fabric.specs.Options.{allowed}
+-- What a search over numbers in turn finds, in plain terms.
+use Rattle.std.specs.Prelude.{◌≡◌, ℕ, zero, suc, ◌+◌, ◌<◌, ◌≤◌, Bool, true, false, cond, not, find, Some, None, Decides, Option, ◌≢◌, refl}
+use Rattle.std.specs.List.{range_with_len, list_any}
+use Rattle.std.proofs.Common.{sym, ap, ◌∙◌, ⊎_elim, arith}
+use Rattle.std.proofs.lemmas.Bool.{false≢true, cases_eq, or_cases, or_left, or_right}
 use Rattle.fabric.specs.Search.{some_below, first_fail}
-use Rattle.fabric.specs.Optional.{nothing}
+use Rattle.fabric.specs.Optional.{nothing, same}
 
--- a test that passes somewhere, and one that passes nowhere
-module _ (test : ℕ → Bool) (n : ℕ) where
-  pub below_more : test n ≡ false → some_below test n ≡ false → some_below test (n + 1) ≡ false
-  below_more e h = ap (some_below test) (add-one n) ∙ or_from (test n) (some_below test n) e h
-
-  pub below_hit : (k : ℕ) → k < n → test k ≡ true → some_below test n ≡ true
-  below_hit k h e = (Decides-below_or test (λ p. test p ≡ true) (some_below test) (λ p. ((λ x. x), (λ x. x))) refl (λ _. refl) n).1 (k, h, e)
-
-  pub below_found : some_below test n ≡ true → (k : ℕ) × (k < n) × (test k ≡ true)
-  below_found e = (Decides-below_or test (λ p. test p ≡ true) (some_below test) (λ p. ((λ x. x), (λ x. x))) refl (λ _. refl) n).0 e
-
--- the first place at which a test fails
 module _ (test : ℕ → Bool) where
-  one_more : (n : ℕ) (o : Option ℕ) (t : Bool) → first_fail test n ≡ o → test n ≡ t → first_fail test (suc n) ≡ option_or o (allowed (not t) n)
-  one_more n o t e f = ap (λ x. option_or x (allowed (not (test n)) n)) e ∙ ap (λ b. option_or o (allowed (not b) n)) f
-
-  pub first_more : (n : ℕ) → first_fail test n ≡ None → test n ≡ true → first_fail test (n + 1) ≡ None
-  first_more n e t = ap (first_fail test) (add-one n) ∙ one_more n None true e t
-
-  pub first_hit : (n i : ℕ) → i < n → first_fail test i ≡ None → test i ≡ false → first_fail test n ≡ Some i
-  first_hit zero i h e f = absurd (let k : ⊥ = omega arith in k)
-  first_hit (suc n) i h e f =
+  -- some number among n of them, from a on, passes
+  found_from : (a n : ℕ) → list_any test (range_with_len a n) ≡ true → (k : ℕ) × (a ≤ k) × (k < a + n) × (test k ≡ true)
+  found_from a zero e = absurd (false≢true e)
+  found_from a (suc n) e =
       ⊎_elim
-      (λ l. one_more n (Some i) (test n) (first_hit n i l e f) refl)
-      (λ l. let s : i ≡ n = omega arith in subst (λ k. first_fail test (suc k) ≡ Some i) s (one_more i None false e f))
-      (cases_lt i n)
+      (λ t. (a, omega arith, omega arith, t))
+      (λ r. let s = found_from (a + 1) n r in let above = s.1 in let within = s.2 in (s.0, omega arith, omega arith, s.3))
+      (or_cases (test a) (list_any test (range_with_len (a + 1) n)) e)
 
-  both : (o : Option ℕ) (t : Bool) (n : ℕ) → option_or o (allowed (not t) n) ≡ None → (o ≡ None) × (t ≡ true)
-  both None true n e = (refl, refl)
-  both None false n e = absurd (nothing (sym e))
-  both (Some x) t n e = absurd (nothing (sym e))
+  hit_from : (a n k : ℕ) → a ≤ k → k < a + n → test k ≡ true → list_any test (range_with_len a n) ≡ true
+  hit_from a zero k h l e = absurd (let z : ⊥ = omega arith in z)
+  hit_from a (suc n) k h l e =
+      ⊎_elim
+      (λ s. or_left (test a) (list_any test (range_with_len (a + 1) n)) (ap test s ∙ e))
+      (λ ne. or_right (test a) (list_any test (range_with_len (a + 1) n)) (hit_from (a + 1) n k (omega arith) (omega arith) e))
+      (cases_eq a k)
+
+  pub below_found : (n : ℕ) → some_below test n ≡ true → (k : ℕ) × (k < n) × (test k ≡ true)
+  below_found n e = let r = found_from 0 n e in let within = r.2 in (r.0, omega arith, r.3)
+
+  pub below_hit : (n k : ℕ) → k < n → test k ≡ true → some_below test n ≡ true
+  below_hit n k h e = hit_from 0 n k (omega arith) (omega arith) e
+
+  pub below_decides : {P : ℕ → Type 0} → ((k : ℕ) → Decides (test k) (P k)) → (n : ℕ) → Decides (some_below test n) ((k : ℕ) × (k < n) × P k)
+  below_decides d n = (
+    (λ e. let r = below_found n e in (r.0, r.1, (d r.0).0 r.2)),
+    (λ h. below_hit n h.0 h.1 ((d h.0).1 h.2)),
+  )
+
+  -- i is the first place of n, from a on, at which the test fails
+  abbrev FirstFrom : ℕ → ℕ → ℕ → Type 0
+  FirstFrom a n i = (i < a + n) × (test i ≡ false) × ((j : ℕ) → a ≤ j → j < i → test j ≡ true)
+
+  abbrev search : ℕ → ℕ → Option ℕ
+  search a n = find (λ i. not (test i)) (range_with_len a n)
+
+  some_from : (a n i : ℕ) → search a n ≡ Some i → FirstFrom a n i
+  some_from a zero i e = absurd (nothing e)
+  some_from a (suc n) i e = go (some_from (a + 1) n i) (test a) refl e
+    where
+      go : (search (a + 1) n ≡ Some i → FirstFrom (a + 1) n i) → (t : Bool) → test a ≡ t → cond (not t) (Some a) (search (a + 1) n) ≡ Some i → FirstFrom a (suc n) i
+      go rest true f g =
+          let r = rest g in
+          let within = r.0 in
+          (omega arith, r.1, λ j h l. ⊎_elim (λ s. ap test (sym s) ∙ f) (λ ne. r.2 j (omega arith) l) (cases_eq a j))
+      go rest false f g = let s = same g in (omega arith, ap test (sym s) ∙ f, λ j h l. absurd (let z : ⊥ = omega arith in z))
+
+  none_from : (a n : ℕ) → search a n ≡ None → (j : ℕ) → a ≤ j → j < a + n → test j ≡ true
+  none_from a zero e j h l = absurd (let z : ⊥ = omega arith in z)
+  none_from a (suc n) e j h l = go (λ g ne. none_from (a + 1) n g j (omega arith) (omega arith)) (test a) refl e
+    where
+      go : (search (a + 1) n ≡ None → (a ≢ j) → test j ≡ true) → (t : Bool) → test a ≡ t → cond (not t) (Some a) (search (a + 1) n) ≡ None → test j ≡ true
+      go rest true f g = ⊎_elim (λ s. ap test (sym s) ∙ f) (rest g) (cases_eq a j)
+      go rest false f g = absurd (nothing (sym g))
+
+  from_none : (a n : ℕ) → ((j : ℕ) → a ≤ j → j < a + n → test j ≡ true) → search a n ≡ None
+  from_none a zero h = refl
+  from_none a (suc n) h =
+      ap (λ t. cond (not t) (Some a) (search (a + 1) n)) (h a (omega arith) (omega arith))
+      ∙ from_none (a + 1) n (λ j k l. h j (omega arith) (omega arith))
+
+  -- the first place at which the test fails: it fails there, and at none before
+  pub first_some : (n i : ℕ) → first_fail test n ≡ Some i → (i < n) × (test i ≡ false) × ((j : ℕ) → j < i → test j ≡ true)
+  first_some n i e = let r = some_from 0 n i e in let within = r.0 in (omega arith, r.1, λ j l. r.2 j (omega arith) l)
 
   -- no place fails exactly where each passes
   pub first_none : (n : ℕ) → first_fail test n ≡ None → (k : ℕ) → k < n → test k ≡ true
-  first_none zero e k h = absurd (let z : ⊥ = omega arith in z)
-  first_none (suc n) e k h =
-      let b = both (first_fail test n) (test n) n e in
-      ⊎_elim (λ l. first_none n b.0 k l) (λ l. let s : n ≡ k = omega arith in ap test (sym s) ∙ b.1) (cases_lt k n)
+  first_none n e k l = none_from 0 n e k (omega arith) (omega arith)
 
   pub none_first : (n : ℕ) → ((k : ℕ) → k < n → test k ≡ true) → first_fail test n ≡ None
-  none_first zero h = refl
-  none_first (suc n) h = one_more n None true (none_first n (λ k l. h k (omega arith))) (h n (omega arith))
+  none_first n h = from_none 0 n (λ j k l. h j (omega arith))

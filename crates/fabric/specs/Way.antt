@@ -1,5 +1,5 @@
 -- The way from a label to another hop by hop, and its length.
-use Rattle.std.specs.Prelude.{◌≡◌, ℕ, zero, suc, ◌+◌, ◌<◌, ◌≤◌, List, [], ◌∷◌, length, take, Some, None, Option}
+use Rattle.std.specs.Prelude.{◌≡◌, ℕ, zero, suc, ◌-◌, ◌<◌, ◌≤◌, List, [], ◌∷◌, length, take, Some, None, Option}
 use Rattle.fabric.specs.Fabrics.{Near}
 use Rattle.fabric.specs.Hop.{distance, exist, hop_of}
 use Rattle.fabric.specs.Options.{allowed}
@@ -26,12 +26,12 @@ way_of nodes near u v = allowed (exist nodes u v) (u ∷ hops_of nodes near u v)
 abbrev pub length_of : ℕ → Near → ℕ → ℕ → Option ℕ
 length_of nodes near u v = allowed (exist nodes u v) (length (hops_of nodes near u v))
 
--- what a path holds
-abbrev pub hops_in : Path → ℕ
-hops_in p = p.hops
-
+-- what a path holds: its labels, and one hop less
 abbrev pub labels_of : Path → List ℕ
-labels_of p = take (p.hops + 1) p.labels
+labels_of p = take p.labels.used p.labels.memory
+
+abbrev pub hops_in : Path → ℕ
+hops_in p = length (labels_of p) - 1
 
 -- In plain terms: each label is the hop from the one before it towards v, and the last is v.
 abbrev pub ByHops : (ℕ → ℕ → Option ℕ) → ℕ → ℕ → List ℕ → Type 0

@@ -1,14 +1,14 @@
 //! A fabric that is read from bytes, in fixed memory.
-ghost use Rattle.std.specs.Prelude.{◌≡◌, ◌≤◌, true, false, take, is_some};
+ghost use Rattle.std.specs.Prelude.{◌≡◌, true, false, take, is_some};
 ghost use Rattle.fabric.specs.Chart.{octets};
 ghost use Rattle.fabric.specs.Check.{fault};
+
+use crate::bytes::Bytes;
 
 /// A chart that passes every question: a record of 12 bytes for each node, the address and the neighbours of the ports 0 to 7.
 #[derive(Clone, Copy)]
 pub struct Chart {
-    pub(crate) bytes: [u8; 1536],
-    pub(crate) used: usize,
-    ghost fits: { used ≤ 1536 },
-    ghost passed: { is_some (fault (take used bytes)) ≡ false },
-    ghost small: { octets (take used bytes) ≡ true },
+    pub(crate) bytes: Bytes<1536>,
+    ghost passed: { is_some (fault (take bytes.used bytes.memory)) ≡ false },
+    ghost small: { octets (take bytes.used bytes.memory) ≡ true },
 }

@@ -1,7 +1,9 @@
-//! The check of a chart: question after question, each over all records.
-ghost use Rattle.std.specs.Prelude.{◌≡◌, ◌<◌, ◌≤◌, length, slice_index};
-ghost use Rattle.fabric.specs.Chart.{records_of, port_at, address_at, whole};
-ghost use Rattle.fabric.specs.Check.{names, taken, passes, found, fault, fault_of};
+//! The records of a chart, and its check: question after question, each over all records.
+ghost use Rattle.std.specs.Prelude.{◌≡◌, ◌*◌, ◌<◌, ◌≤◌, length, nat_lt, slice_index};
+ghost use Rattle.fabric.specs.Chart.{records_of, port_at, named_at, address_at, record_with, chart_near, whole};
+ghost use Rattle.fabric.specs.Check.{names, taken, passes, passes_at, found, fault, fault_of};
+ghost use Rattle.fabric.specs.Options.{allowed};
+ghost use Rattle.fabric.specs.Search.{first_fail};
 
 use crate::questions::Question;
 use crate::refusals::Refusal;
@@ -14,6 +16,9 @@ pub struct ChartFault {
     pub port: u8,
 }
 
+/// What a record has at a port that leads nowhere.
+pub(crate) const NO_LABEL: u8 = 255;
+
 // How many whole records there are.
 pub(crate) fn records(bytes: &[u8]) -> usize
     ensures { result ≡ records_of bytes.now }
@@ -21,42 +26,81 @@ pub(crate) fn records(bytes: &[u8]) -> usize
     bytes.len() / 12
 }
 
+// Whether there are 1 to 128 whole records.
+fn whole(bytes: &[u8]) -> bool
+    ensures { result ≡ whole bytes.now }
+{
+    bytes.len() % 12 == 0 && records(bytes) >= 1 && records(bytes) <= 128
+}
+
 // The byte at a place, or 0 past the end.
 fn byte(bytes: &[u8], i: usize) -> u8
     ensures { result ≡ slice_index bytes.now i }
 {
-    if i < bytes.len() { bytes[i] } else { 0 }
+    bytes.get(i).copied().unwrap_or(0)
 }
 
-// The label that a record has for a port, or 255 for none.
-pub(crate) fn port_at(bytes: &[u8], label: u8, port: u8) -> u8
+// The byte that a record has for a port.
+#[tactic(auto, unfolding(crate::specs::Chart::port_at))]
+fn port_at(bytes: &[u8], label: u8, port: u8) -> u8
     ensures { result ≡ port_at bytes.now label port }
 {
-    byte(bytes, 12 * label as usize + 4 + port as usize)
+    byte(bytes, 12 * usize::from(label) + 4 + usize::from(port))
+}
+
+// The label that a record names at a port.
+fn named_at(bytes: &[u8], label: u8, port: u8) -> Option<u8>
+    ensures { result ≡ named_at bytes.now label port }
+{
+    let entry = port_at(bytes, label, port);
+    (entry != NO_LABEL).then_some(entry)
 }
 
 // The address in a record, most significant byte first.
-pub(crate) fn address_at(bytes: &[u8], label: u8) -> u32
+#[tactic(auto, unfolding(crate::specs::Chart::address_at))]
+fn address_at(bytes: &[u8], label: u8) -> u32
     ensures { result ≡ address_at bytes.now label }
 {
-    let start = 12 * label as usize;
-    let a = byte(bytes, start) as u32;
-    let b = byte(bytes, start + 1) as u32;
-    let c = byte(bytes, start + 2) as u32;
-    let d = byte(bytes, start + 3) as u32;
-    ((a * 256 + b) * 256 + c) * 256 + d
+    let start = 12 * usize::from(label);
+    u32::from_be_bytes([
+        byte(bytes, start),
+        byte(bytes, start + 1),
+        byte(bytes, start + 2),
+        byte(bytes, start + 3),
+    ])
+}
+
+// The neighbour in a record, or none where there is no such record or port.
+pub(crate) fn neighbour_in(bytes: &[u8], label: u8, port: u8) -> Option<u8>
+    ensures { result ≡ chart_near bytes.now label port }
+{
+    if usize::from(label) < records(bytes) && port < 8 {
+        named_at(bytes, label, port)
+    } else {
+        None
+    }
+}
+
+// The address in a record, or none where there is no such record.
+pub(crate) fn address_in(bytes: &[u8], label: u8) -> Option<u32>
+    ensures { result ≡ allowed (nat_lt label (records_of bytes.now)) (address_at bytes.now label) }
+{
+    (usize::from(label) < records(bytes)).then(|| address_at(bytes, label))
+}
+
+// The first record that has an address, or none where none has it.
+pub(crate) fn label_in(bytes: &[u8], address: u32) -> Option<u8>
+    requires { records_of bytes.now ≤ 128 }
+    ensures { result ≡ record_with bytes.now address }
+{
+    (0..records(bytes) as u8).find(|label| address_at(bytes, *label) == address)
 }
 
 // Whether one of the first ports of a record names the label.
 fn names(bytes: &[u8], label: u8, next: u8, ports: u8) -> bool
     ensures { result ≡ names bytes.now label next ports }
 {
-    for q in 0..ports {
-        if port_at(bytes, label, q) == next {
-            return true;
-        }
-    }
-    false
+    (0..ports).any(|port| port_at(bytes, label, port) == next)
 }
 
 // Whether a record before this one has its address.
@@ -64,20 +108,7 @@ fn taken(bytes: &[u8], label: u8) -> bool
     ensures { result ≡ taken bytes.now label }
 {
     let address = address_at(bytes, label);
-    for j in 0..label {
-        if address_at(bytes, j) == address {
-            return true;
-        }
-    }
-    false
-}
-
-// Whether there are 1 to 128 whole records.
-fn whole(bytes: &[u8]) -> bool
-    ensures { result ≡ whole bytes.now }
-{
-    let records = records(bytes);
-    bytes.len() % 12 == 0 && records >= 1 && records <= 128
+    (0..label).any(|earlier| address_at(bytes, earlier) == address)
 }
 
 // Whether a record passes a question at a port.
@@ -85,38 +116,45 @@ fn passes(bytes: &[u8], question: Question, label: u8, port: u8) -> bool
     requires { label < 128 }
     ensures { result ≡ passes question bytes.now label port }
 {
-    let records = records(bytes);
-    let next = port_at(bytes, label, port);
+    let next = named_at(bytes, label, port);
     match question {
-        Question::Exists => next == 255 || (next as usize) < records,
-        Question::Other => next != label,
-        Question::New => next == 255 || !names(bytes, label, next, port),
-        Question::Mutual => next == 255 || names(bytes, next, label, 8),
+        Question::Exists => next.is_none_or(|next| usize::from(next) < records(bytes)),
+        Question::Other => next != Some(label),
+        Question::New => next.is_none_or(|next| !names(bytes, label, next, port)),
+        Question::Mutual => next.is_none_or(|next| names(bytes, next, label, 8)),
         Question::Address => port > 0 || !taken(bytes, label),
         Question::Next => port > 0
-            || records <= label as usize + 1
+            || records(bytes) <= usize::from(label) + 1
             || names(bytes, label, label + 1, 8),
     }
 }
 
-// The first place at which a question fails: the one scan for all questions.
+// The first place at which a question fails: place i is port i % 8 of record i / 8.
+fn failing(bytes: &[u8], question: Question) -> Option<usize>
+    requires { length bytes.now ≤ 1536 }
+    ensures { result ≡ first_fail (passes_at question bytes.now) (8 * records_of bytes.now) }
+{
+    (0..8 * records(bytes)).find(|place| !passes(
+        bytes,
+        question,
+        (place / 8) as u8,
+        (place % 8) as u8,
+    ))
+}
+
+// The first fault by a question: the one scan for all questions.
 fn scan(bytes: &[u8], question: Question) -> Result<(), ChartFault>
     requires { length bytes.now ≤ 1536 }
     ensures { fault_of result ≡ found bytes.now question }
 {
-    for place in 0..8 * records(bytes) {
-        let record = (place / 8) as u8;
-        let port = (place % 8) as u8;
-        if !passes(bytes, question, record, port) {
-            let refusal = question.refusal();
-            return Err(ChartFault {
-                refusal,
-                record,
-                port,
-            });
-        }
+    match failing(bytes, question) {
+        Some(place) => Err(ChartFault {
+            refusal: question.refusal(),
+            record: (place / 8) as u8,
+            port: (place % 8) as u8,
+        }),
+        None => Ok(()),
     }
-    Ok(())
 }
 
 // The first fault of a chart.

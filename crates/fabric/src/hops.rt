@@ -4,6 +4,7 @@ ghost use Rattle.fabric.specs.Hop.{exist, leads_onward, labels_short, exits_of, 
 
 use crate::picks::{Ranked, pick};
 use crate::traits::Fabric;
+use std::array;
 
 // A port of `from` and where it leads, as seen by a message to `towards`.
 #[derive(Clone, Copy)]
@@ -19,17 +20,14 @@ impl Ranked for Exit {
     ghost rank = { labels_short };
 
     fn eligible(&self) -> bool {
-        match self.neighbour {
-            Some(w) => (self.from < w && w <= self.towards) || (self.towards <= w && w < self.from),
-            None => false,
-        }
+        self.neighbour.is_some_and(|w| {
+            (self.from < w && w <= self.towards) || (self.towards <= w && w < self.from)
+        })
     }
 
     fn rank(&self) -> u32 {
-        match self.neighbour {
-            Some(w) => w.abs_diff(self.towards) as u32,
-            None => 0,
-        }
+        self.neighbour
+            .map_or(0, |w| u32::from(w.abs_diff(self.towards)))
     }
 }
 
@@ -45,20 +43,11 @@ pub(crate) fn both_exist<F: Fabric>(fabric: &F, u: u8, v: u8) -> bool
 fn exits<F: Fabric>(fabric: &F, from: u8, towards: u8) -> [Exit; 8]
     ensures { result ≡ exits_of (F.Fabric.near fabric.now) from towards }
 {
-    let mut exits = [Exit {
+    array::from_fn(|port| Exit {
         from,
         towards,
-        neighbour: None,
-    }; 8];
-    for port in 0..8u8 {
-        let neighbour = fabric.neighbour(from, port);
-        exits[port as usize] = Exit {
-            from,
-            towards,
-            neighbour,
-        };
-    }
-    exits
+        neighbour: fabric.neighbour(from, port as u8),
+    })
 }
 
 /// The neighbour of greatest label above `from` and not above `towards`, or of least label below and not below.
@@ -70,8 +59,5 @@ pub fn hop<F: Fabric>(fabric: &F, from: u8, towards: u8) -> Option<u8>
     if !both_exist(fabric, from, towards) {
         return None;
     }
-    match pick(&exits(fabric, from, towards)) {
-        Some(exit) => exit.neighbour,
-        None => None,
-    }
+    pick(&exits(fabric, from, towards))?.neighbour
 }

@@ -10,25 +10,13 @@ use crate::hops::both_exist;
 use crate::links::Closed;
 use crate::refusals::Refusal;
 use crate::traits::{Addressed, Fabric};
+use arrayvec::ArrayVec;
 
 // Whether a link joins two labels, in either order.
 fn joins(link: (u8, u8), u: u8, v: u8) -> bool
     ensures { result ≡ joins link u v }
 {
-    let (a, b) = link;
-    (a == u && b == v) || (a == v && b == u)
-}
-
-// Whether one of the links does.
-fn any_joins(links: &[(u8, u8)], u: u8, v: u8) -> bool
-    ensures { result ≡ holds links.now u v }
-{
-    for link in links {
-        if joins(*link, u, v) {
-            return true;
-        }
-    }
-    false
+    link == (u, v) || link == (v, u)
 }
 
 // Whether the ends of a link are two or more apart.
@@ -44,45 +32,28 @@ impl Closed {
         ensures { links_of result ≡ [] }
     {
         Closed {
-            links: [(0, 0); 64],
-            count: 0,
+            links: ArrayVec::new(),
         }
     }
 
     fn list(&self) -> &[(u8, u8)]
         ensures { result.now ≡ links_of self.now }
     {
-        &self.links[..self.count]
+        self.links.as_slice()
     }
 
     // Whether the link between two labels is closed.
     fn holds(&self, u: u8, v: u8) -> bool
         ensures { result ≡ holds (links_of self.now) u v }
     {
-        any_joins(self.list(), u, v)
-    }
-
-    fn len(&self) -> usize
-        ensures { result ≡ length (links_of self.now) }
-    {
-        self.list().len()
-    }
-
-    fn has_room(&self) -> bool
-        ensures { result ≡ nat_lt (length (links_of self.now)) 64 }
-    {
-        self.len() < 64
+        self.list().iter().any(|link| joins(*link, u, v))
     }
 
     // A neighbour, unless the link to it is closed.
     fn unless_closed(&self, label: u8, neighbour: u8) -> Option<u8>
         ensures { result ≡ unless_closed (links_of self.now) label (Some neighbour) }
     {
-        if self.holds(label, neighbour) {
-            None
-        } else {
-            Some(neighbour)
-        }
+        (!self.holds(label, neighbour)).then_some(neighbour)
     }
 
     fn add(&mut self, link: (u8, u8))
@@ -90,28 +61,15 @@ impl Closed {
         requires spares { apart link ≡ true }
         ensures { links_of self.new ≡ links_of self.old ++ link ∷ [] }
     {
-        self.links[self.count] = link;
-        self.count += 1;
+        self.links.push(link);
     }
-}
-
-// Whether a port leads to a label.
-fn is_at(neighbour: Option<u8>, label: u8) -> bool
-    ensures { result ≡ is_at label neighbour }
-{
-    neighbour == Some(label)
 }
 
 // Whether a port of `u` leads to `v`.
 fn are_neighbours<F: Fabric>(fabric: &F, u: u8, v: u8) -> bool
     ensures { result ≡ neighbours (F.Fabric.near fabric.now) u v }
 {
-    for port in 0..8u8 {
-        if is_at(fabric.neighbour(u, port), v) {
-            return true;
-        }
-    }
-    false
+    (0..8).any(|port| fabric.neighbour(u, port) == Some(v))
 }
 
 /// A fabric of which some links are closed. It is a fabric itself, in which those links are missing, in both directions.
@@ -193,7 +151,7 @@ impl<F: Fabric> Layout<F> {
         if self.closed.holds(u, v) {
             return Err(Refusal::LinkClosed);
         }
-        if !self.closed.has_room() {
+        if self.closed.links.is_full() {
             return Err(Refusal::LinksFull);
         }
         Ok(())

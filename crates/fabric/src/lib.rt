@@ -1,6 +1,7 @@
 //! Fabrics of tiles: what a fabric is, hops and ways on any fabric; meshes, cubes and charts; and layouts, in which links are closed.
 #![tactic(auto)]
 
+mod bytes;
 mod charts;
 mod checks;
 mod cubes;

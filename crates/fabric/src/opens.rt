@@ -1,25 +1,17 @@
 //! The fabric of a chart.
-ghost use Rattle.std.specs.Prelude.{◌≡◌, ◌≤◌, false, ◌++◌, length, drop, is_some, nat_lt};
-ghost use Rattle.fabric.specs.Chart.{records_of, address_at, chart_near, chart_addresses, Recorded, alone};
+ghost use Rattle.std.specs.Prelude.{◌≡◌, ◌≤◌, false, length, is_some};
+ghost use Rattle.fabric.specs.Chart.{records_of, chart_near, chart_addresses, Recorded, alone};
 ghost use Rattle.fabric.specs.Check.{fault, fault_of, Checked, opened_as};
 ghost use Rattle.fabric.specs.Copy.{Opened};
 ghost use Rattle.fabric.specs.Held.{bytes_of};
-ghost use Rattle.fabric.specs.Options.{allowed};
 ghost use Rattle.fabric.specs.Asking.{held_sound};
 ghost use Rattle.fabric.specs.Charting.{chart_lawful, chart_different};
 ghost use Rattle.fabric.specs.Octets.{addresses_fit};
 
+use crate::bytes::Bytes;
 use crate::charts::Chart;
-use crate::checks::{ChartFault, address_at, ask, port_at, records};
+use crate::checks::{ChartFault, address_in, ask, label_in, neighbour_in, records};
 use crate::traits::{Addressed, Fabric};
-
-// The bytes over the front of the others.
-fn overwrite(all: &mut [u8], bytes: &[u8])
-    requires { length bytes.now ≤ length all.old }
-    ensures { all.new ≡ bytes.now ++ drop (length bytes.now) all.old }
-{
-    all[0..bytes.len()].copy_from_slice(bytes);
-}
 
 // The chart of one node, with address 0.
 fn alone() -> [u8; 12]
@@ -43,10 +35,9 @@ impl Chart {
         requires passed { is_some (fault bytes.now) ≡ false }
         ensures { bytes_of result ≡ bytes.now }
     {
-        let used = bytes.len();
-        let mut all = [0u8; 1536];
-        overwrite(&mut all, bytes);
-        Chart { bytes: all, used }
+        Chart {
+            bytes: Bytes::of(bytes),
+        }
     }
 
     /// The fabric of the chart; one node with address 0 where the bytes do not pass.
@@ -55,7 +46,7 @@ impl Chart {
         ensures law { Opened bytes.now (bytes_of result) }
     {
         match ask(bytes) {
-            Ok(_) => Chart::of(bytes),
+            Ok(()) => Chart::of(bytes),
             Err(_) => Chart::of(&alone()),
         }
     }
@@ -64,30 +55,7 @@ impl Chart {
     pub fn bytes(&self) -> &[u8]
         ensures { result.now ≡ bytes_of self.now }
     {
-        &self.bytes[0..self.used]
-    }
-}
-
-// The neighbour in a record, or none where there is no such record or port, or it is 255.
-fn neighbour_in(bytes: &[u8], label: u8, port: u8) -> Option<u8>
-    ensures { result ≡ chart_near bytes.now label port }
-{
-    if (label as usize) < records(bytes) && port < 8 {
-        let next = port_at(bytes, label, port);
-        if next != 255 { Some(next) } else { None }
-    } else {
-        None
-    }
-}
-
-// The address in a record, or none where there is no such record.
-fn address_in(bytes: &[u8], label: u8) -> Option<u32>
-    ensures { result ≡ allowed (nat_lt label (records_of bytes.now)) (address_at bytes.now label) }
-{
-    if (label as usize) < records(bytes) {
-        Some(address_at(bytes, label))
-    } else {
-        None
+        self.bytes.as_slice()
     }
 }
 
@@ -122,11 +90,6 @@ impl Addressed for Chart {
     }
 
     fn label_of(&self, address: u32) -> Option<u8> {
-        for k in 0..self.size() {
-            if address_at(self.bytes(), k) == address {
-                return Some(k);
-            }
-        }
-        None
+        label_in(self.bytes(), address)
     }
 }

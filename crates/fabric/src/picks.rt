@@ -15,13 +15,14 @@ pub trait Ranked {
         ensures { result ≡ rank self.now };
 }
 
-// The best so far, unless the entry ranks lower.
-fn lesser<T: Ranked + Copy>(best: Option<T>, entry: T) -> Option<T>
-    ensures { result ≡ better T.Ranked.rank best (Some entry) }
+// The one of lesser rank, the first on a tie.
+fn lesser<T: Ranked + Copy>(best: T, entry: T) -> T
+    ensures { result ≡ better T.Ranked.rank best entry }
 {
-    match best {
-        Some(b) if b.rank() <= entry.rank() => Some(b),
-        _ => Some(entry),
+    if best.rank() <= entry.rank() {
+        best
+    } else {
+        entry
     }
 }
 
@@ -30,11 +31,9 @@ pub fn pick<T: Ranked + Copy>(entries: &[T]) -> Option<T>
     ensures is { result ≡ picked T.Ranked.eligible T.Ranked.rank entries.now }
     ensures law { Picked T.Ranked.eligible T.Ranked.rank entries.now result }
 {
-    let mut best = None;
-    for e in entries {
-        if e.eligible() {
-            best = lesser(best, *e);
-        }
-    }
-    best
+    entries
+        .iter()
+        .copied()
+        .filter(|entry| entry.eligible())
+        .reduce(lesser)
 }

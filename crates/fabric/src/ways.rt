@@ -3,6 +3,7 @@ ghost use Rattle.std.specs.Prelude.{◌≡◌};
 ghost use Rattle.std.specs.Option.{option_map};
 ghost use Rattle.fabric.specs.Way.{labels_of, hops_in, way_of, Travelled, length_of, Measured};
 
+use crate::bytes::Bytes;
 use crate::hops::{both_exist, hop};
 use crate::paths::Path;
 use crate::traits::Fabric;
@@ -12,7 +13,14 @@ impl Path {
     pub fn labels(&self) -> &[u8]
         ensures { result.now ≡ labels_of self.now }
     {
-        &self.labels[0..self.hops as usize + 1]
+        self.labels.as_slice()
+    }
+
+    // How many hops there are: one less than labels.
+    fn hops(&self) -> u8
+        ensures { result ≡ hops_in self.now }
+    {
+        (self.labels().len() - 1) as u8
     }
 }
 
@@ -26,16 +34,13 @@ pub fn way<F: Fabric>(fabric: &F, from: u8, to: u8) -> Option<Path>
     if !both_exist(fabric, from, to) {
         return None;
     }
-    let mut labels = [0; 128];
-    labels[0] = from;
-    let mut hops = 0;
+    let mut labels = Bytes::of(&[from]);
     let mut at = from;
     while let Some(next) = hop(fabric, at, to) {
-        hops += 1;
-        labels[hops as usize] = next;
+        labels.push(next);
         at = next;
     }
-    Some(Path { labels, hops })
+    Some(Path { labels })
 }
 
 /// The number of hops from a node to another, or none where one of them does not exist.
@@ -43,5 +48,5 @@ pub fn length<F: Fabric>(fabric: &F, from: u8, to: u8) -> Option<u8>
     ensures is { result ≡ length_of (F.Fabric.nodes fabric.now) (F.Fabric.near fabric.now) from to }
     ensures law { Measured (F.Fabric.nodes fabric.now) (F.Fabric.near fabric.now) from to result }
 {
-    Some(way(fabric, from, to)?.hops)
+    Some(way(fabric, from, to)?.hops())
 }

@@ -3,6 +3,7 @@ ghost use Rattle.std.specs.Prelude.{◌≡◌, ◌<◌, length};
 ghost use Rattle.fabric.specs.Copy.{record_byte, length_written, written, Copied};
 ghost use Rattle.fabric.specs.Refusals.{told};
 
+use crate::checks::NO_LABEL;
 use crate::refusals::Refusal;
 use crate::traits::Addressed;
 
@@ -15,9 +16,9 @@ fn record_byte<F: Addressed>(fabric: &F, label: u8, place: u8) -> u8
 {
     if place < 4 {
         let address = fabric.address(label).unwrap_or(0);
-        ((address >> (24 - 8 * place)) % 256) as u8
+        address.to_be_bytes()[usize::from(place)]
     } else {
-        fabric.neighbour(label, place - 4).unwrap_or(255)
+        fabric.neighbour(label, place - 4).unwrap_or(NO_LABEL)
     }
 }
 
@@ -28,12 +29,12 @@ pub fn write_chart<F: Addressed>(fabric: &F, buffer: &mut [u8]) -> Result<usize,
     ensures does { buffer.new ≡ written (F.Fabric.nodes fabric.now) (F.Fabric.near fabric.now) (F.Addressed.addresses fabric.now) buffer.old }
     ensures law { Copied result buffer.new (F.Fabric.nodes fabric.now) (F.Fabric.near fabric.now) (F.Addressed.addresses fabric.now) }
 {
-    let length = 12 * fabric.size() as usize;
+    let length = 12 * usize::from(fabric.size());
     if buffer.len() < length {
         return Err(Refusal::BufferShort);
     }
-    for i in 0..length {
-        buffer[i] = record_byte(fabric, (i / 12) as u8, (i % 12) as u8);
+    for (i, byte) in buffer[..length].iter_mut().enumerate() {
+        *byte = record_byte(fabric, (i / 12) as u8, (i % 12) as u8);
     }
     Ok(length)
 }

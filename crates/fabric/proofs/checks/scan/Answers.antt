@@ -1,26 +1,23 @@
-use Rattle.std.proofs.Common.{◌≡◌, ◌*◌, ◌/◌, ◌%◌, Some, sym, ap, ◌∙◌, arith}
+use Rattle.std.proofs.Common.{◌*◌, ◌/◌, ◌%◌, Some, sym, ap, ◌∙◌, arith}
 use Rattle.std.specs.Option.{option_map}
 use Rattle.fabric.specs.Chart.{records_of}
 use Rattle.fabric.specs.Check.{passes_at, fault_at, found}
 use Rattle.fabric.specs.Refusals.{number_of}
-use Rattle.fabric.specs.Search.{first_fail}
-use Rattle.fabric.specs.Searching.{first_more, first_hit}
+use Rattle.fabric.specs.Searching.{first_some}
 use Rattle.fabric.proofs.checks.scan.Goals as goal
 
-pub loop-place-preserved : goal.loop-place-preserved
-loop-place-preserved c =
-    first_more (passes_at c.args.question c.args.bytes.now) c.loop-place.place c.loop-place.invariant (sym c.if-not-passes.ensures)
+pub overflow_cast-result : goal.overflow_cast-result
+overflow_cast-result c =
+    let b = c.args.bytes.now in
+    let r = first_some (passes_at c.args.question b) (8 * records_of b) c.in-Some.place (sym c.in-Some.ensures) in
+    omega (arith, r.0, c.requires)
 
-pub returns-then-not-passes : goal.returns-then-not-passes
+pub returns-in-Some : goal.returns-in-Some
 unfolding found
-returns-then-not-passes c =
-    let i = c.loop-place.place in
-    ap (λ r. Some (number_of r, i / 8, i % 8)) c.refusal-refusal.ensures
-    ∙ sym (ap (option_map (fault_at c.args.question)) (first_hit (passes_at c.args.question c.args.bytes.now) (8 * records_of c.args.bytes.now) i (omega arith) c.loop-place.invariant (sym c.if-not-passes.ensures)))
+returns-in-Some c =
+    let i = c.in-Some.place in
+    ap (λ r. Some (number_of r, i / 8, i % 8)) c.refusal.ensures ∙ ap (option_map (fault_at c.args.question)) c.in-Some.ensures
 
-pub returns : goal.returns
+pub returns-in-None : goal.returns-in-None
 unfolding found
-returns c =
-    let test = passes_at c.args.question c.args.bytes.now in
-    let all : 8 * records_of c.args.bytes.now ≡ c.loop-place.place = omega arith in
-    sym (ap (option_map (fault_at c.args.question)) (ap (first_fail test) all ∙ c.loop-place.invariant))
+returns-in-None c = ap (option_map (fault_at c.args.question)) c.in-None.ensures

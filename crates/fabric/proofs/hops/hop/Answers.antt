@@ -1,4 +1,4 @@
-use Rattle.std.proofs.Common.{Some, None, sym}
+use Rattle.std.proofs.Common.{Some, None, sym, refl}
 use Rattle.fabric.specs.Hopping.{hop_end, hop_none}
 use Rattle.fabric.proofs.hops.hop.Goals as goal
 
@@ -7,12 +7,12 @@ returns-then-not-both_exist g c =
     let f = c.args.fabric.now in
     hop_none (g.F.Fabric.nodes f) (g.F.Fabric.near f) (g.met.F.Fabric.lawful f) c.args.from c.args.towards (sym c.if-not-both_exist.ensures)
 
-pub returns-in-Some : goal.returns-in-Some
-returns-in-Some g c =
+pub returns-in_err-pick : goal.returns-in_err-pick
+returns-in_err-pick g c =
     let f = c.args.fabric.now in
-    hop_end (g.F.Fabric.nodes f) (g.F.Fabric.near f) (g.met.F.Fabric.lawful f) c.args.from c.args.towards (Some c.in-Some.exit) c.exits.result (sym c.if-not-both_exist.ensures) c.in-Some.ensures.is c.exits.ensures
+    hop_end (g.F.Fabric.nodes f) (g.F.Fabric.near f) (g.met.F.Fabric.lawful f) c.args.from c.args.towards _ None c.exits.result (sym c.if-not-both_exist.ensures) c.from_residual.ensures c.in_err-pick.ensures.is c.exits.ensures
 
-pub returns-in-None : goal.returns-in-None
-returns-in-None g c =
+pub returns : goal.returns
+returns g c =
     let f = c.args.fabric.now in
-    hop_end (g.F.Fabric.nodes f) (g.F.Fabric.near f) (g.met.F.Fabric.lawful f) c.args.from c.args.towards None c.exits.result (sym c.if-not-both_exist.ensures) c.in-None.ensures.is c.exits.ensures
+    hop_end (g.F.Fabric.nodes f) (g.F.Fabric.near f) (g.met.F.Fabric.lawful f) c.args.from c.args.towards _ (Some c.in_ok-pick.field-0) c.exits.result (sym c.if-not-both_exist.ensures) refl c.in_ok-pick.ensures.is c.exits.ensures

@@ -1,14 +1,12 @@
-use Rattle.std.proofs.Common.{◌≡◌, ◌≤◌, false, cond, length, is_some, sym, ap, ◌∙◌, subst, lit≤}
+use Rattle.std.proofs.Common.{◌≡◌, false, cond, is_some, sym, ap, ◌∙◌, subst}
 use Rattle.fabric.specs.Chart.{alone}
 use Rattle.fabric.specs.Check.{fault}
 use Rattle.fabric.specs.Held.{bytes_of}
 use Rattle.fabric.proofs.Copying.{alone_passes, opened_as_lem}
 use Rattle.fabric.proofs.charts.Chart.open.Goals as goal
 
-pub of-requires-in-Err : goal.of-requires-in-Err
-of-requires-in-Err c =
-    let same = sym c.alone.ensures in
-    record { long = subst (λ x. length x ≤ 1536) same (lit≤ tt); passed = subst (λ x. is_some (fault x) ≡ false) same (ap is_some alone_passes) }
+pub of-requires-in-Err-clause-passed : goal.of-requires-in-Err-clause-passed
+of-requires-in-Err-clause-passed c = subst (λ x. is_some (fault x) ≡ false) (sym c.alone.ensures) (ap is_some alone_passes)
 
 pub returns-in-Ok : goal.returns-in-Ok
 returns-in-Ok c =
