@@ -4,10 +4,10 @@ use Rattle.std.specs.List.{slice_get}
 use Rattle.std.proofs.lemmas.List.FromFn.{length-map-range_with_len, get_or-map-range_with_len, fill_by_all}
 use Rattle.std.proofs.lemmas.Option.{slice_get-get_or}
 use Rattle.std.proofs.lemmas.Bool.{cases_lt, cases_eq, le-ltb, lt-ltb, eq-eqb, ne_eqb, and_left, and_right, not_from_false, cond-true, cond-false}
-use Rattle.fabric.specs.Chart.{records_of, port_at, address_at, chart_near, chart_addresses, octets, alone}
+use Rattle.fabric.specs.Chart.{records_of, port_at, address_at, chart_near, chart_meaning, chart_addresses, octets, alone}
 use Rattle.fabric.specs.Check.{Fault, found, fault, opened_as}
 use Rattle.fabric.specs.Copy.{address_byte, record_byte, chart_byte, chart_of, OpensAs, OneNode, Opened}
-use Rattle.fabric.specs.Fabrics.{Near, Lawful, AllDifferent, AllFit, SameMeaning}
+use Rattle.fabric.specs.Fabrics.{Near, Meaning, Lawful, AllDifferent, AllFit, SameMeaning}
 use Rattle.fabric.specs.Options.{allowed}
 use Rattle.fabric.specs.Asking.{sound}
 use Rattle.fabric.specs.Charting.{near_inside, no_fault_in, chart_lawful}
@@ -26,8 +26,8 @@ opened_bad b = go (fault b)
     go (Some f) bad = refl
 
 -- a fabric with the same neighbours is as lawful
-lawful_like : (n : ℕ) (near other : Near) → ((u p : ℕ) → other u p ≡ near u p) → Lawful n near → Lawful n other
-lawful_like n near other like law = record {
+lawful_like : (m : Meaning) (other : Near) → ((u p : ℕ) → other u p ≡ m.near u p) → Lawful m → Lawful (record { nodes = m.nodes; near = other })
+lawful_like m other like law = record {
   nonempty = law.nonempty;
   bounded = law.bounded;
   within = λ u p v e. law.within u p v (sym (like u p) ∙ e);
@@ -37,31 +37,31 @@ lawful_like n near other like law = record {
   chain = λ u h. let r = law.chain u h in (r.0, like u r.0 ∙ r.1);
 }
 
-module _ (nodes : ℕ) (near : Near) (addresses : List ℕ) (law : Lawful nodes near) (different : AllDifferent addresses) (fit : AllFit addresses) (all : length addresses ≡ nodes) where
+module _ (m : Meaning) (addresses : List ℕ) (law : Lawful m) (different : AllDifferent addresses) (fit : AllFit addresses) (all : length addresses ≡ m.nodes) where
   abbrev bytes : List ℕ
-  bytes = chart_of nodes near addresses
+  bytes = chart_of m addresses
 
-  long : length bytes ≡ 12 * nodes
-  long = length-map-range_with_len (chart_byte near addresses) 0 (12 * nodes)
+  long : length bytes ≡ 12 * m.nodes
+  long = length-map-range_with_len (chart_byte m.near addresses) 0 (12 * m.nodes)
 
-  count : records_of bytes ≡ nodes
-  count = let e : 12 * nodes / 12 ≡ nodes = omega arith in ap (λ x. x / 12) long ∙ e
+  count : records_of bytes ≡ m.nodes
+  count = let e : 12 * m.nodes / 12 ≡ m.nodes = omega arith in ap (λ x. x / 12) long ∙ e
 
-  byte_at : (k j i : ℕ) → k < nodes → j < 12 → i ≡ 12 * k + j → get_or bytes i 0 ≡ record_byte near addresses k j
+  byte_at : (k j i : ℕ) → k < m.nodes → j < 12 → i ≡ 12 * k + j → get_or bytes i 0 ≡ record_byte m.near addresses k j
   byte_at k j i h l e =
       let row : i / 12 ≡ k = omega arith in
       let column : i % 12 ≡ j = omega arith in
-      get_or-map-range_with_len (chart_byte near addresses) 0 (12 * nodes) i i 0 (omega arith) (omega arith) ∙ ap₂ (record_byte near addresses) row column
+      get_or-map-range_with_len (chart_byte m.near addresses) 0 (12 * m.nodes) i i 0 (omega arith) (omega arith) ∙ ap₂ (record_byte m.near addresses) row column
 
-  port_is : (k p : ℕ) → k < nodes → p < 8 → port_at bytes k p ≡ unwrap_or (near k p) 255
+  port_is : (k p : ℕ) → k < m.nodes → p < 8 → port_at bytes k p ≡ unwrap_or (m.near k p) 255
   unfolding port_at
   port_is k p h l =
       let back : (4 + p) - 4 ≡ p = omega arith in
       byte_at k (4 + p) (12 * k + 4 + p) h (omega arith) (omega arith)
-      ∙ cond-false (ltb (4 + p) 4) (address_byte (unwrap_or (slice_get addresses k) 0) (4 + p)) (unwrap_or (near k ((4 + p) - 4)) 255) (le-ltb (4 + p) 4 (omega arith))
-      ∙ ap (λ x. unwrap_or (near k x) 255) back
+      ∙ cond-false (ltb (4 + p) 4) (address_byte (unwrap_or (slice_get addresses k) 0) (4 + p)) (unwrap_or (m.near k ((4 + p) - 4)) 255) (le-ltb (4 + p) 4 (omega arith))
+      ∙ ap (λ x. unwrap_or (m.near k x) 255) back
 
-  address_is : (k : ℕ) → k < nodes → address_at bytes k ≡ get_or addresses k 0
+  address_is : (k : ℕ) → k < m.nodes → address_at bytes k ≡ get_or addresses k 0
   unfolding address_at
   address_is k h =
       let a = unwrap_or (slice_get addresses k) 0 in
@@ -74,30 +74,30 @@ module _ (nodes : ℕ) (near : Near) (addresses : List ℕ) (law : Lawful nodes 
       let e3 : get_or bytes (12 * k + 3) 0 ≡ a / 1 % 256 = byte_at k 3 (12 * k + 3) h (omega arith) (omega arith) in
       ap₂ (λ x y. x * 256 + y) (ap₂ (λ x y. x * 256 + y) (ap₂ (λ x y. x * 256 + y) e0 e1) e2) e3 ∙ four_bytes a (omega arith) ∙ same
 
-  near_again : (u p : ℕ) → chart_near bytes u p ≡ near u p
+  near_again : (u p : ℕ) → chart_near bytes u p ≡ m.near u p
   near_again u p =
       ⊎_elim
       (λ h.
       ⊎_elim
-      (λ l. inside h l (near u p) refl)
-      (λ l. outside (and_right (ltb u (records_of bytes)) (ltb p 8) (le-ltb p 8 l)) (λ _ c. omega arith) (near u p) refl)
+      (λ l. inside h l (m.near u p) refl)
+      (λ l. outside (and_right (ltb u (records_of bytes)) (ltb p 8) (le-ltb p 8 l)) (λ _ c. omega arith) (m.near u p) refl)
       (cases_lt p 8))
-      (λ h. outside (and_left (ltb u (records_of bytes)) (ltb p 8) (le-ltb u (records_of bytes) (subst (λ x. x ≤ u) (sym count) h))) (λ a _. omega arith) (near u p) refl)
-      (cases_lt u nodes)
+      (λ h. outside (and_left (ltb u (records_of bytes)) (ltb p 8) (le-ltb u (records_of bytes) (subst (λ x. x ≤ u) (sym count) h))) (λ a _. omega arith) (m.near u p) refl)
+      (cases_lt u m.nodes)
     where
-      inside : u < nodes → p < 8 → (o : Option ℕ) → near u p ≡ o → chart_near bytes u p ≡ o
+      inside : u < m.nodes → p < 8 → (o : Option ℕ) → m.near u p ≡ o → chart_near bytes u p ≡ o
       inside h l o e =
           near_inside bytes u p (subst (λ x. u < x) (sym count) h) l
           ∙ ap (λ x. allowed (not (eqb x 255)) x) (port_is u p h l ∙ ap (λ x. unwrap_or x 255) e)
-          ∙ elim o as (λ x. near u p ≡ x → allowed (not (eqb (unwrap_or x 255) 255)) (unwrap_or x 255) ≡ x) [
+          ∙ elim o as (λ x. m.near u p ≡ x → allowed (not (eqb (unwrap_or x 255) 255)) (unwrap_or x 255) ≡ x) [
             | None ↦ λ f. refl
             | Some w ↦ λ f. cond-true (not (eqb w 255)) (Some w) None (not_from_false (eqb w 255) (ne_eqb w 255 (λ g. let x = (law.within u p w f).2 in let y = law.bounded in omega arith)))
           ] e
 
-      outside : (ltb u (records_of bytes) && ltb p 8) ≡ false → (u < nodes → p < 8 → ⊥) → (o : Option ℕ) → near u p ≡ o → chart_near bytes u p ≡ o
+      outside : (ltb u (records_of bytes) && ltb p 8) ≡ false → (u < m.nodes → p < 8 → ⊥) → (o : Option ℕ) → m.near u p ≡ o → chart_near bytes u p ≡ o
       outside t out o e =
           cond-false (ltb u (records_of bytes) && ltb p 8) (allowed (not (eqb (port_at bytes u p) 255)) (port_at bytes u p)) None t
-          ∙ elim o as (λ x. near u p ≡ x → None ≡ x) [ None ↦ λ f. refl | Some w ↦ λ f. let r = law.within u p w f in absurd (out r.0 r.1) ] e
+          ∙ elim o as (λ x. m.near u p ≡ x → None ≡ x) [ None ↦ λ f. refl | Some w ↦ λ f. let r = law.within u p w f in absurd (out r.0 r.1) ] e
 
   addresses_again : chart_addresses bytes ≡ addresses
   addresses_again = sym (fill_by_all (address_at bytes) addresses (records_of bytes) 0 (all ∙ sym count) (λ k h. sym (address_is k (subst (λ x. k < x) count h))))
@@ -110,16 +110,16 @@ module _ (nodes : ℕ) (near : Near) (addresses : List ℕ) (law : Lawful nodes 
           bounded = subst (λ x. x ≤ 128) (sym count) law.bounded;
           exact = ap (λ x. 12 * x) count ∙ sym long;
         };
-        lawful = subst (λ x. Lawful x (chart_near bytes)) (sym count) (lawful_like nodes near (chart_near bytes) near_again law);
+        lawful = subst (λ x. Lawful (record { nodes = x; near = chart_near bytes })) (sym count) (lawful_like m (chart_near bytes) near_again law);
         different = subst AllDifferent (sym addresses_again) different;
       })
 
-  pub opens_as : OpensAs bytes nodes near addresses
+  pub opens_as : OpensAs bytes m addresses
   opens_as =
       let same = sym (opened_good bytes passes_again) in
       record {
         passes = passes_again;
-        meaning = subst (λ (x : List ℕ). SameMeaning (records_of x) (chart_near x) nodes near) same (record { size = count; answers = near_again });
+        meaning = subst (λ (x : List ℕ). SameMeaning (chart_meaning x) m) same (record { size = count; answers = near_again });
         addressed = subst (λ (x : List ℕ). chart_addresses x ≡ addresses) same addresses_again;
       }
 
@@ -148,11 +148,11 @@ module _ (x : List ℕ) (exact : 12 * records_of x ≡ length x) (small : octets
       (λ l. cond-false (ltb j 4) of_address of_port (le-ltb j 4 l) ∙ port_byte k (j - 4) i row (omega arith) (omega arith))
       (cases_lt j 4))
 
-  pub chart_again : chart_of (records_of x) (chart_near x) (chart_addresses x) ≡ x
+  pub chart_again : chart_of (chart_meaning x) (chart_addresses x) ≡ x
   chart_again = sym (fill_by_all (chart_byte (chart_near x) (chart_addresses x)) x (12 * records_of x) 0 (sym exact) byte_again)
 
 -- one node has no neighbour
-lonely : (near : Near) → Lawful 1 near → (u p : ℕ) → near u p ≡ None
+lonely : (near : Near) → Lawful (record { nodes = 1; near = near }) → (u p : ℕ) → near u p ≡ None
 lonely near law u p = go (near u p) refl
   where
     go : (o : Option ℕ) → near u p ≡ o → o ≡ None
@@ -167,7 +167,7 @@ pub alone_passes : fault alone ≡ None
 unfolding found port_at address_at
 alone_passes = refl
 
-alone_is : OneNode (records_of alone) (chart_near alone) (chart_addresses alone)
+alone_is : OneNode (chart_meaning alone) (chart_addresses alone)
 unfolding address_at
 alone_is = record { size = refl; answers = lonely (chart_near alone) (chart_lawful alone (sound alone alone_passes)); addressed = refl }
 
@@ -179,6 +179,6 @@ opened_as_lem b held small e = record {
     again = λ good.
         let same = e ∙ opened_good b good in
         chart_again held (subst (λ (x : List ℕ). 12 * records_of x ≡ length x) (sym same) (sound b good).long.exact) small ∙ same;
-    alone = λ bad. subst (λ (x : List ℕ). OneNode (records_of x) (chart_near x) (chart_addresses x)) (sym (e ∙ opened_bad b bad)) alone_is;
+    alone = λ bad. subst (λ (x : List ℕ). OneNode (chart_meaning x) (chart_addresses x)) (sym (e ∙ opened_bad b bad)) alone_is;
   };
 }

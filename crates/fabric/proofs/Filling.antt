@@ -4,7 +4,7 @@ use Rattle.std.specs.List.{range_with_len}
 use Rattle.std.proofs.lemmas.List.FromFn.{length-map-range_with_len, map-range_with_len_more}
 use Rattle.std.proofs.lemmas.List.{drop_more, drop_all, set_at, take_at, append_assoc}
 use Rattle.fabric.specs.Copy.{chart_byte, chart_of, OpensAs, Copied}
-use Rattle.fabric.specs.Fabrics.{Near}
+use Rattle.fabric.specs.Fabrics.{Meaning}
 
 -- one byte more
 pub fill_more : (f : ℕ → ℕ) (now was : List ℕ) (i v : ℕ) → i < length was → now ≡ map f (range_with_len 0 i) ++ drop i was → v ≡ f i → set now i v ≡ map f (range_with_len 0 (i + 1)) ++ drop (i + 1) was
@@ -27,9 +27,9 @@ fill_all f now was i n long past within e =
     ∙ ap (λ m. map f (range_with_len 0 m)) end
 
 -- the front of a buffer that is a chart opens as the fabric
-pub copied : (nodes : ℕ) (near : Near) (addresses front rest : List ℕ) (n : ℕ) → n ≡ 12 * nodes → front ≡ chart_of nodes near addresses → OpensAs (chart_of nodes near addresses) nodes near addresses → Copied (Ok n) (front ++ rest) nodes near addresses
-copied nodes near addresses front rest n all e opens m f =
-    let same : m ≡ 12 * nodes = let s : n ≡ m = cc in omega arith in
-    subst (λ (x : List ℕ). OpensAs x nodes near addresses)
-    (sym (ap (λ k. take k (front ++ rest)) same ∙ ap (λ (x : List ℕ). take (12 * nodes) (x ++ rest)) e ∙ take_at (chart_of nodes near addresses) rest (12 * nodes) (length-map-range_with_len (chart_byte near addresses) 0 (12 * nodes))))
+pub copied : (m : Meaning) (addresses front rest : List ℕ) (n : ℕ) → n ≡ 12 * m.nodes → front ≡ chart_of m addresses → OpensAs (chart_of m addresses) m addresses → Copied (Ok n) (front ++ rest) m addresses
+copied m addresses front rest n all e opens k f =
+    let same : k ≡ 12 * m.nodes = let s : n ≡ k = cc in omega arith in
+    subst (λ (x : List ℕ). OpensAs x m addresses)
+    (sym (ap (λ i. take i (front ++ rest)) same ∙ ap (λ (x : List ℕ). take (12 * m.nodes) (x ++ rest)) e ∙ take_at (chart_of m addresses) rest (12 * m.nodes) (length-map-range_with_len (chart_byte m.near addresses) 0 (12 * m.nodes))))
     opens

@@ -1,7 +1,7 @@
 -- A chart: records of 12 bytes, each an address and the neighbours through the ports; and the fabric that it gives.
 use Rattle.std.specs.Prelude.{◌≡◌, ℕ, ◌+◌, ◌*◌, ◌/◌, ◌%◌, ◌<◌, ◌≤◌, Bool, cond, not, ◌&&◌, ◌≢◌, ◌↔◌, List, [], ◌∷◌, find, map, length, Some, None, Option, ◌==◌, nat_le, nat_lt, slice_index}
 use Rattle.std.specs.List.{range_with_len, list_all}
-use Rattle.fabric.specs.Fabrics.{Near, Lawful, AllDifferent}
+use Rattle.fabric.specs.Fabrics.{Near, Meaning, Lawful, AllDifferent}
 use Rattle.fabric.specs.Options.{allowed}
 
 -- the records in a string of bytes
@@ -28,6 +28,10 @@ address_at b k = ((slice_index b (12 * k) * 256 + slice_index b (12 * k + 1)) * 
 abbrev pub chart_near : List ℕ → Near
 chart_near b u p = cond (nat_lt u (records_of b) && nat_lt p 8) (named_at b u p) None
 
+-- the fabric of the records
+abbrev pub chart_meaning : List ℕ → Meaning
+chart_meaning b = record { nodes = records_of b; near = chart_near b }
+
 -- the addresses, record by record
 abbrev pub chart_addresses : List ℕ → List ℕ
 chart_addresses b = map (address_at b) (range_with_len 0 (records_of b))
@@ -49,7 +53,7 @@ pub record Whole (b : List ℕ) : Type 0 where
 -- In plain terms: whole records that give a fabric, and no address twice.
 pub record Charted (b : List ℕ) : Type 0 where
   pub long : Whole b
-  pub lawful : Lawful (records_of b) (chart_near b)
+  pub lawful : Lawful (chart_meaning b)
   pub different : AllDifferent (chart_addresses b)
 
 -- every byte has at most 8 bits

@@ -5,7 +5,7 @@ use Rattle.std.specs.List.{slice_get, range_with_len}
 use Rattle.std.specs.Option.{option_map}
 use Rattle.std.proofs.lemmas.List.FromFn.{length-map-range_with_len}
 use Rattle.std.proofs.lemmas.Bool.{both_ways, cases_lt, cases_order, cases_eq, cases_Bool, ltb-true, lt-ltb, le-leb, lt-leb, eqb-true, eqb-false, eq-eqb, ne_eqb, and_parts, and_from, or_cases, or_left, or_right, not-true, not_from_false, cond-true}
-use Rattle.fabric.specs.Chart.{records_of, port_at, address_at, chart_near, chart_addresses, record_with, Recorded, Charted}
+use Rattle.fabric.specs.Chart.{records_of, port_at, address_at, chart_near, chart_meaning, chart_addresses, record_with, Recorded, Charted}
 use Rattle.fabric.specs.Check.{names, taken, fault, Checked}
 use Rattle.fabric.specs.Fabrics.{Lawful, AllDifferent, label_with, Located}
 use Rattle.fabric.specs.Options.{allowed}
@@ -96,7 +96,7 @@ module _ (b : List ℕ) (s : Sound b) where
       let r = named b u (u + 1) 8 t in
       (r.0, is_near b u r.0 (u + 1) (omega arith) r.1 r.2 (λ f. let k = few in omega arith))
 
-  pub chart_lawful : Lawful n (chart_near b)
+  pub chart_lawful : Lawful (chart_meaning b)
   chart_lawful = record {
     nonempty = s.long.nonempty;
     bounded = few;

@@ -3,9 +3,9 @@ use Rattle.std.specs.Prelude.{◌≡◌, ℕ, ◌+◌, ◌<◌, ◌≤◌, Bool,
 use Rattle.std.proofs.Common.{sym, ap, ap₂, subst, ◌∙◌, inl, inr, ⊎_elim, arith}
 use Rattle.std.proofs.lemmas.Bool.{false≢true, ltb-true, leb-true, le-leb, and_from, and_parts, cond-true}
 use Rattle.std.proofs.lemmas.Bool.Decides.{Decides-eqb, Decides-and, Decides-or, Decides-not, Decides-like, Decides-ltb}
-use Rattle.fabric.specs.Fabrics.{Near, Neighbours, Lawful}
+use Rattle.fabric.specs.Fabrics.{Near, Meaning, Neighbours, Lawful}
 use Rattle.fabric.specs.Hop.{distance, exist}
-use Rattle.fabric.specs.Links.{Link, apart, all_apart, joins, holds, unless_closed, thinned, is_at, neighbours, close_refusal, closed_after, Joins, IsClosed, Thinned, Closes}
+use Rattle.fabric.specs.Links.{Link, apart, all_apart, joins, holds, unless_closed, thinned, thinned_meaning, is_at, neighbours, close_refusal, closed_after, Joins, IsClosed, Thinned, Closes}
 use Rattle.fabric.specs.Questions.{Asks, Granted}
 use Rattle.fabric.specs.Answering.{asks, yes_to}
 use Rattle.fabric.specs.Optional.{nothing, same, allowed_is, with_law}
@@ -82,19 +82,19 @@ module _ (ls : List Link) (near : Near) where
   pub thinned_as : (u p : ℕ) (r : Option ℕ) → r ≡ thinned ls near u p → record { is : r ≡ thinned ls near u p; law : Thinned ls near u p r }
   thinned_as u p = with_law (Thinned ls near u p) _ (thinned_law u p)
 
-  pub thinned_lawful : (nodes : ℕ) → all_apart ls ≡ true → Lawful nodes near → Lawful nodes (thinned ls near)
-  thinned_lawful nodes spared law = record {
-    nonempty = law.nonempty;
-    bounded = law.bounded;
-    within = λ u p v e. law.within u p v ((thinned_law u p v).0 e).0;
-    no_self = λ u n. law.no_self u (n.0, ((thinned_law u n.0 u).0 n.1).0);
-    once = λ u p q v e f. law.once u p q v ((thinned_law u p v).0 e).0 ((thinned_law u q v).0 f).0;
-    two_way = λ u v n.
-        let s = (thinned_law u n.0 v).0 n.1 in
-        let b = law.two_way u v (n.0, s.0) in
-        (b.0, (thinned_law v b.0 u).1 (b.1, λ h. s.1 (closed_swap ls v u h)));
-    chain = λ u h. let c = law.chain u h in (c.0, (thinned_law u c.0 (u + 1)).1 (c.1, closed_chain ls u spared));
-  }
+pub thinned_lawful : (ls : List Link) (m : Meaning) → all_apart ls ≡ true → Lawful m → Lawful (thinned_meaning ls m)
+thinned_lawful ls m spared law = record {
+  nonempty = law.nonempty;
+  bounded = law.bounded;
+  within = λ u p v e. law.within u p v ((thinned_law ls m.near u p v).0 e).0;
+  no_self = λ u n. law.no_self u (n.0, ((thinned_law ls m.near u n.0 u).0 n.1).0);
+  once = λ u p q v e f. law.once u p q v ((thinned_law ls m.near u p v).0 e).0 ((thinned_law ls m.near u q v).0 f).0;
+  two_way = λ u v n.
+      let s = (thinned_law ls m.near u n.0 v).0 n.1 in
+      let b = law.two_way u v (n.0, s.0) in
+      (b.0, (thinned_law ls m.near v b.0 u).1 (b.1, λ h. s.1 (closed_swap ls v u h)));
+  chain = λ u h. let c = law.chain u h in (c.0, (thinned_law ls m.near u c.0 (u + 1)).1 (c.1, closed_chain ls u spared));
+}
 
 -- with all links open the neighbours are those below
 pub all_open : (near : Near) (u p : ℕ) → thinned [] near u p ≡ near u p
@@ -111,41 +111,41 @@ is_at_decides v None = ((λ e. absurd (false≢true e)), (λ e. absurd (nothing 
 is_at_decides v (Some w) = Decides-like _ (ap Some) same (Decides-eqb w v)
 
 -- some port leads there, in plain terms
-neighbours_decides : (nodes : ℕ) (near : Near) → Lawful nodes near → (u v : ℕ) → Decides (neighbours near u v) (Neighbours near u v)
-neighbours_decides nodes near law u v =
-    let leads : ℕ → Bool = λ p. is_at v (near u p) in
+neighbours_decides : (m : Meaning) → Lawful m → (u v : ℕ) → Decides (neighbours m.near u v) (Neighbours m.near u v)
+neighbours_decides m law u v =
+    let leads : ℕ → Bool = λ p. is_at v (m.near u p) in
     Decides-like _ (λ k. (k.0, k.2)) (λ n. (n.0, (law.within u n.0 v n.1).1, n.1))
-    (below_decides leads (λ p. is_at_decides v (near u p)) 8)
+    (below_decides leads (λ p. is_at_decides v (m.near u p)) 8)
 
 -- ---- closing a link
 
 -- the answer of the questions, and what it means for the neighbours
-module _ (nodes : ℕ) (near : Near) (law : Lawful nodes near) (ls : List Link) (l : Link) where
-  close_answer : Asks 10 ((l.0 < nodes) × (l.1 < nodes)) (Asks 11 (Neighbours near l.0 l.1) (Asks 12 (2 ≤ distance l.0 l.1) (Asks 13 (IsClosed ls l.0 l.1 → ⊥) (Asks 14 (length ls < 64) Granted)))) (close_refusal nodes near ls l)
+module _ (m : Meaning) (law : Lawful m) (ls : List Link) (l : Link) where
+  close_answer : Asks 10 ((l.0 < m.nodes) × (l.1 < m.nodes)) (Asks 11 (Neighbours m.near l.0 l.1) (Asks 12 (2 ≤ distance l.0 l.1) (Asks 13 (IsClosed ls l.0 l.1 → ⊥) (Asks 14 (length ls < 64) Granted)))) (close_refusal m ls l)
   close_answer =
-      asks 10 _ (exist nodes l.0 l.1) _ (Decides-and _ _ (Decides-ltb l.0 nodes) (Decides-ltb l.1 nodes))
-      (asks 11 _ (neighbours near l.0 l.1) _ (neighbours_decides nodes near law l.0 l.1)
+      asks 10 _ (exist m.nodes l.0 l.1) _ (Decides-and _ _ (Decides-ltb l.0 m.nodes) (Decides-ltb l.1 m.nodes))
+      (asks 11 _ (neighbours m.near l.0 l.1) _ (neighbours_decides m law l.0 l.1)
       (asks 12 _ (apart l) _ (leb-true 2 (distance l.0 l.1), le-leb 2 (distance l.0 l.1))
       (asks 13 _ (not (holds ls l.0 l.1)) _ (open_decides ls l.0 l.1)
       (asks 14 Granted (nat_lt (length ls) 64) None (Decides-ltb (length ls) 64) refl))))
 
   -- a link that may be closed is two or more apart, and there is room for it
-  pub may_close : close_refusal nodes near ls l ≡ None → (apart l ≡ true) × (length ls < 64)
+  pub may_close : close_refusal m ls l ≡ None → (apart l ≡ true) × (length ls < 64)
   may_close e =
-      let a = yes_to 10 (exist nodes l.0 l.1) _ e in
-      let b = yes_to 11 (neighbours near l.0 l.1) _ a.1 in
+      let a = yes_to 10 (exist m.nodes l.0 l.1) _ e in
+      let b = yes_to 11 (neighbours m.near l.0 l.1) _ a.1 in
       let c = yes_to 12 (apart l) _ b.1 in
       let d = yes_to 13 (not (holds ls l.0 l.1)) _ c.1 in
       (c.0, ltb-true (length ls) 64 (yes_to 14 (nat_lt (length ls) 64) None d.1).0)
 
-  close_law : Closes nodes near ls l (thinned ls near) (thinned (closed_after (close_refusal nodes near ls l) ls l) near) (close_refusal nodes near ls l)
+  close_law : Closes m ls l (thinned ls m.near) (thinned (closed_after (close_refusal m ls l) ls l) m.near) (close_refusal m ls l)
   close_law = record {
     answer = close_answer;
-    refused = λ n e u p. ap (λ o. thinned (closed_after o ls l) near u p) e;
+    refused = λ n e u p. ap (λ o. thinned (closed_after o ls l) m.near u p) e;
     closed = λ e u p v.
-        let after : thinned (closed_after (close_refusal nodes near ls l) ls l) near u p ≡ thinned (ls ++ l ∷ []) near u p = ap (λ o. thinned (closed_after o ls l) near u p) e in
-        let law_before = thinned_law ls near u p v in
-        let law_after = thinned_law (ls ++ l ∷ []) near u p v in
+        let after : thinned (closed_after (close_refusal m ls l) ls l) m.near u p ≡ thinned (ls ++ l ∷ []) m.near u p = ap (λ o. thinned (closed_after o ls l) m.near u p) e in
+        let law_before = thinned_law ls m.near u p v in
+        let law_after = thinned_law (ls ++ l ∷ []) m.near u p v in
         let more = closed_more ls l u v in (
           (λ f. let s = law_after.0 (sym after ∙ f) in (law_before.1 (s.0, λ h. s.1 (more.1 (inl h))), λ j. s.1 (more.1 (inr j)))),
           (λ s. let b = law_before.0 s.0 in after ∙ law_after.1 (b.0, λ h. ⊎_elim b.1 s.1 (more.0 h))),
@@ -153,7 +153,7 @@ module _ (nodes : ℕ) (near : Near) (law : Lawful nodes near) (ls : List Link) 
   }
 
   -- the same of an answer and a list that are said to be these
-  pub close_as : (r : Option ℕ) (after : List Link) → r ≡ close_refusal nodes near ls l → after ≡ closed_after r ls l → Closes nodes near ls l (thinned ls near) (thinned after near) r
+  pub close_as : (r : Option ℕ) (after : List Link) → r ≡ close_refusal m ls l → after ≡ closed_after r ls l → Closes m ls l (thinned ls m.near) (thinned after m.near) r
   close_as r after e f =
-      subst (λ o. Closes nodes near ls l (thinned ls near) (thinned after near) o) (sym e)
-      (subst (λ ks. Closes nodes near ls l (thinned ls near) (thinned ks near) (close_refusal nodes near ls l)) (sym (f ∙ ap (λ o. closed_after o ls l) e)) close_law)
+      subst (λ o. Closes m ls l (thinned ls m.near) (thinned after m.near) o) (sym e)
+      (subst (λ ks. Closes m ls l (thinned ls m.near) (thinned ks m.near) (close_refusal m ls l)) (sym (f ∙ ap (λ o. closed_after o ls l) e)) close_law)

@@ -7,30 +7,35 @@ use Rattle.std.specs.List.{slice_get}
 abbrev pub Near : Type 0
 Near = ℕ → ℕ → Option ℕ
 
+-- What a fabric means: its number of nodes, and its answers.
+pub record Meaning : Type 0 where
+  pub nodes : ℕ
+  pub near : Near
+
 -- some port of u leads to v
 abbrev pub Neighbours : Near → ℕ → ℕ → Type 0
 Neighbours near u v = (p : ℕ) × (near u p ≡ Some v)
 
 -- The laws of every fabric.
-pub record Lawful (nodes : ℕ) (near : Near) : Type 0 where
+pub record Lawful (m : Meaning) : Type 0 where
   -- it has 1 to 128 nodes
-  pub nonempty : 1 ≤ nodes
-  pub bounded : nodes ≤ 128
+  pub nonempty : 1 ≤ m.nodes
+  pub bounded : m.nodes ≤ 128
   -- only a label that exists, through one of the ports 0 to 7, has a neighbour, and the neighbour exists
-  pub within : (u p v : ℕ) → near u p ≡ Some v → (u < nodes) × (p < 8) × (v < nodes)
+  pub within : (u p v : ℕ) → m.near u p ≡ Some v → (u < m.nodes) × (p < 8) × (v < m.nodes)
   -- no node neighbours itself
-  pub no_self : (u : ℕ) → Neighbours near u u → ⊥
+  pub no_self : (u : ℕ) → Neighbours m.near u u → ⊥
   -- no neighbour is met through two ports
-  pub once : (u p q v : ℕ) → near u p ≡ Some v → near u q ≡ Some v → p ≡ q
+  pub once : (u p q v : ℕ) → m.near u p ≡ Some v → m.near u q ≡ Some v → p ≡ q
   -- the neighbour of a node has that node as a neighbour
-  pub two_way : (u v : ℕ) → Neighbours near u v → Neighbours near v u
+  pub two_way : (u v : ℕ) → Neighbours m.near u v → Neighbours m.near v u
   -- every label but the last neighbours the next label
-  pub chain : (u : ℕ) → u + 1 < nodes → Neighbours near u (u + 1)
+  pub chain : (u : ℕ) → u + 1 < m.nodes → Neighbours m.near u (u + 1)
 
 -- Two fabrics of one meaning: as many nodes, and the same answer for each label and port.
-pub record SameMeaning (nodes : ℕ) (near : Near) (nodes' : ℕ) (near' : Near) : Type 0 where
-  pub size : nodes ≡ nodes'
-  pub answers : (u p : ℕ) → near u p ≡ near' u p
+pub record SameMeaning (m m' : Meaning) : Type 0 where
+  pub size : m.nodes ≡ m'.nodes
+  pub answers : (u p : ℕ) → m.near u p ≡ m'.near u p
 
 -- no entry stands at two places
 abbrev pub AllDifferent : List ℕ → Type 0

@@ -1,7 +1,7 @@
 -- A cube: the addresses are those of its corners, and labels follow the reflected Gray code.
 use Rattle.std.specs.Prelude.{◌≡◌, ℕ, ◌/◌, ◌^◌, cond, ◌↔◌, List, Some, None, Ok, Err, Option, Result, ◌==◌, bit_xor, count_ones, nat_le, nat_lt}
 use Rattle.std.specs.Int.Count.{count_trailing_zeros}
-use Rattle.fabric.specs.Fabrics.{Near}
+use Rattle.fabric.specs.Fabrics.{Near, Meaning}
 use Rattle.fabric.specs.Hop.{exist}
 use Rattle.fabric.specs.Options.{allowed}
 use Rattle.fabric.specs.Steps.{via, codes}
@@ -28,6 +28,10 @@ flip d a p = allowed (nat_lt p d) (bit_xor a (2 ^ p))
 
 abbrev pub cube_near : ℕ → Near
 cube_near d = via (2 ^ d) gray ungray (flip d)
+
+-- the cube as a fabric
+abbrev pub cube_meaning : ℕ → Meaning
+cube_meaning d = record { nodes = 2 ^ d; near = cube_near d }
 
 abbrev pub cube_addresses : ℕ → List ℕ
 cube_addresses d = codes (2 ^ d) gray (λ a. a)

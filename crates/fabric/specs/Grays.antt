@@ -7,7 +7,7 @@ use Rattle.std.proofs.lemmas.Nat.{pow_pos, pow_below, shr_le, xor_lt}
 use Rattle.std.proofs.lemmas.Bool.{both_ways, not-true, eqb-true, eq-eqb, ltb-true, ltb-false, lt-ltb, and_parts, or_cases, cond-true, cases_lt, cases_order}
 use Rattle.std.proofs.lemmas.Bool.Decides.{Decides-below_and}
 use Rattle.fabric.specs.Fabrics.{Lawful, label_with, Located}
-use Rattle.fabric.specs.Gray.{folded, gray, ungray, flip, cube_near, cube_addresses, only_bit, port_to, LeadsTo}
+use Rattle.fabric.specs.Gray.{folded, gray, ungray, flip, cube_near, cube_meaning, cube_addresses, only_bit, port_to, LeadsTo}
 use Rattle.fabric.specs.Hop.{exist}
 use Rattle.fabric.specs.Steps.{BySteps}
 use Rattle.fabric.specs.Options.{allowed}
@@ -152,7 +152,7 @@ module _ (d : ℕ) (small : d ≤ 7) where
     chain = chain;
   }
 
-  pub cube_lawful : Lawful (2 ^ d) (cube_near d)
+  pub cube_lawful : Lawful (cube_meaning d)
   cube_lawful = placed_lawful Corner (2 ^ d) gray ungray (flip d) cube_placing
 
   pub cube_near_as : (k p : ℕ) (r : Option ℕ) → r ≡ cube_near d k p → record { is : r ≡ cube_near d k p; law : BySteps (2 ^ d) gray (flip d) k p r }

@@ -1,7 +1,7 @@
 -- The hop from a label towards another: to the farthest neighbour on the way that is not past the target.
 use Rattle.std.specs.Prelude.{◌≡◌, ℕ, ◌+◌, ◌-◌, ◌<◌, ◌≤◌, Bool, false, cond, ◌&&◌, ◌||◌, ◌≢◌, ◌↔◌, List, map, Some, None, Option, nat_le, nat_lt}
 use Rattle.std.specs.List.{range_with_len}
-use Rattle.fabric.specs.Fabrics.{Near, Neighbours}
+use Rattle.fabric.specs.Fabrics.{Near, Meaning, Neighbours}
 use Rattle.fabric.specs.Pick.{picked}
 use Rattle.fabric.specs.declared.hops.Exit.{Exit}
 
@@ -39,8 +39,8 @@ end None = None
 end (Some e) = e.neighbour
 
 -- the hop from u towards v
-unfoldable pub hop_of : ℕ → Near → ℕ → ℕ → Option ℕ
-hop_of nodes near u v = cond (exist nodes u v) (end (picked leads_onward labels_short (exits_of near u v))) None
+unfoldable pub hop_of : Meaning → ℕ → ℕ → Option ℕ
+hop_of m u v = cond (exist m.nodes u v) (end (picked leads_onward labels_short (exits_of m.near u v))) None
 
 -- In plain terms, for an order of labels: w is the last of u's neighbours that come after u and not after v.
 -- With ≤ for ≼ that is the greatest label w with u < w ≤ v, and with ≥ the least with v ≤ w < u.
@@ -54,8 +54,8 @@ module _ (◌≼◌ : ℕ → ℕ → Type 0) where
     pub last : (x : ℕ) → Neighbours near u x → u ≼ x → u ≢ x → x ≼ v → x ≼ w
 
 -- The hop is that neighbour, and there is one exactly where both labels exist and differ.
-pub record Hopped (nodes : ℕ) (near : Near) (u v : ℕ) (r : Option ℕ) : Type 0 where
-  pub up : u < v → v < nodes → (w : ℕ) → (r ≡ Some w) ↔ Last (λ a b. a ≤ b) near u v w
-  pub down : v < u → u < nodes → (w : ℕ) → (r ≡ Some w) ↔ Last (λ a b. b ≤ a) near u v w
-  pub there : u < nodes → v < nodes → u ≢ v → (w : ℕ) × (r ≡ Some w)
-  pub only : (w : ℕ) → r ≡ Some w → (u < nodes) × (v < nodes) × (u ≢ v)
+pub record Hopped (m : Meaning) (u v : ℕ) (r : Option ℕ) : Type 0 where
+  pub up : u < v → v < m.nodes → (w : ℕ) → (r ≡ Some w) ↔ Last (λ a b. a ≤ b) m.near u v w
+  pub down : v < u → u < m.nodes → (w : ℕ) → (r ≡ Some w) ↔ Last (λ a b. b ≤ a) m.near u v w
+  pub there : u < m.nodes → v < m.nodes → u ≢ v → (w : ℕ) × (r ≡ Some w)
+  pub only : (w : ℕ) → r ≡ Some w → (u < m.nodes) × (v < m.nodes) × (u ≢ v)

@@ -1,7 +1,7 @@
 -- Closed links, and a fabric without them.
 use Rattle.std.specs.Prelude.{◌≡◌, ℕ, ◌<◌, ◌≤◌, Bool, false, not, ◌&&◌, ◌||◌, ◌⊎◌, ◌↔◌, List, [], ◌∷◌, ◌++◌, length, Some, None, Option, ◌==◌, nat_le, nat_lt}
 use Rattle.std.specs.List.{list_any, list_all}
-use Rattle.fabric.specs.Fabrics.{Near, Neighbours}
+use Rattle.fabric.specs.Fabrics.{Near, Meaning, Neighbours}
 use Rattle.fabric.specs.Hop.{distance, exist}
 use Rattle.fabric.specs.Options.{allowed}
 use Rattle.fabric.specs.Questions.{ask, Asks, Granted}
@@ -35,6 +35,10 @@ unless_closed ls u (Some v) = allowed (not (holds ls u v)) v
 abbrev pub thinned : List Link → Near → Near
 thinned ls near u p = unless_closed ls u (near u p)
 
+-- so the fabric without them
+abbrev pub thinned_meaning : List Link → Meaning → Meaning
+thinned_meaning ls m = record { nodes = m.nodes; near = thinned ls m.near }
+
 -- the answer is this label
 abbrev pub is_at : ℕ → Option ℕ → Bool
 is_at v None = false
@@ -45,10 +49,10 @@ abbrev pub neighbours : Near → ℕ → ℕ → Bool
 neighbours near u v = some_below (λ p. is_at v (near u p)) 8
 
 -- the number of the refusal to close a link, or none: the labels exist, they are neighbours, they are two or more apart, the link is still open, and fewer than 64 are closed
-abbrev pub close_refusal : ℕ → Near → List Link → Link → Option ℕ
-close_refusal nodes near ls l =
-    ask 10 (exist nodes l.0 l.1)
-    (ask 11 (neighbours near l.0 l.1)
+abbrev pub close_refusal : Meaning → List Link → Link → Option ℕ
+close_refusal m ls l =
+    ask 10 (exist m.nodes l.0 l.1)
+    (ask 11 (neighbours m.near l.0 l.1)
     (ask 12 (apart l)
     (ask 13 (not (holds ls l.0 l.1))
     (ask 14 (nat_lt (length ls) 64) None))))
@@ -72,7 +76,7 @@ Thinned ls near u p r = (v : ℕ) → (r ≡ Some v) ↔ ((near u p ≡ Some v) 
 
 -- What a call that closes a link answers, and what it does to the neighbours: where it is refused they are as before,
 -- and else exactly the two ends of the link are no neighbours any more.
-pub record Closes (nodes : ℕ) (below : Near) (ls : List Link) (l : Link) (before after : Near) (r : Option ℕ) : Type 0 where
-  pub answer : Asks 10 ((l.0 < nodes) × (l.1 < nodes)) (Asks 11 (Neighbours below l.0 l.1) (Asks 12 (2 ≤ distance l.0 l.1) (Asks 13 (IsClosed ls l.0 l.1 → ⊥) (Asks 14 (length ls < 64) Granted)))) r
+pub record Closes (below : Meaning) (ls : List Link) (l : Link) (before after : Near) (r : Option ℕ) : Type 0 where
+  pub answer : Asks 10 ((l.0 < below.nodes) × (l.1 < below.nodes)) (Asks 11 (Neighbours below.near l.0 l.1) (Asks 12 (2 ≤ distance l.0 l.1) (Asks 13 (IsClosed ls l.0 l.1 → ⊥) (Asks 14 (length ls < 64) Granted)))) r
   pub refused : (n : ℕ) → r ≡ Some n → (u p : ℕ) → after u p ≡ before u p
   pub closed : r ≡ None → (u p v : ℕ) → (after u p ≡ Some v) ↔ ((before u p ≡ Some v) × (Joins l u v → ⊥))

@@ -75,7 +75,7 @@ module _ {P : Type 0} (In : P → Type 0) (nodes : ℕ) (place : ℕ → P) (lab
         let c = law.chain u h in
         (c.0, take u c.0 (u + 1) (record { from = omega arith; at = place (u + 1); steps = c.1; is = law.label_place (u + 1) h }))
 
-    pub placed_lawful : Lawful nodes (via nodes place label step)
+    pub placed_lawful : Lawful (record { nodes = nodes; near = via nodes place label step })
     unfolding near
     placed_lawful = record {
       nonempty = law.nonempty;

@@ -1,6 +1,6 @@
 -- A mesh with the snake labelling: labels go to and fro, row after row.
 use Rattle.std.specs.Prelude.{◌≡◌, ℕ, zero, suc, ◌+◌, ◌-◌, ◌*◌, ◌/◌, ◌%◌, ◌≤◌, Bool, cond, ◌&&◌, ◌↔◌, List, Some, None, Ok, Err, Option, Result, ◌==◌, nat_le, nat_lt}
-use Rattle.fabric.specs.Fabrics.{Near}
+use Rattle.fabric.specs.Fabrics.{Near, Meaning}
 use Rattle.fabric.specs.Options.{allowed}
 use Rattle.fabric.specs.Steps.{via, codes}
 
@@ -55,6 +55,10 @@ beside rows columns a (suc (suc (suc (suc p)))) = None
 -- the neighbour through a port is the label of the place that the port leads to
 abbrev pub mesh_near : ℕ → ℕ → Near
 mesh_near rows columns = via (rows * columns) (place_at columns) (label_at columns) (beside rows columns)
+
+-- the mesh as a fabric
+abbrev pub mesh_meaning : ℕ → ℕ → Meaning
+mesh_meaning rows columns = record { nodes = rows * columns; near = mesh_near rows columns }
 
 -- the address of a place, and those of all labels in turn
 abbrev pub address_at : Place → ℕ

@@ -6,7 +6,7 @@ use Rattle.std.proofs.lemmas.Nat.{div-add-mod', div-mul-add, mod-mul-add, mul-ad
 use Rattle.std.proofs.lemmas.Bool.{cases_lt, both_ways, ltb-true, lt-ltb, leb-true, eq-eqb, ne_eqb, cond-true, cond-false, and_from, and_parts}
 use Rattle.fabric.specs.Fabrics.{Lawful, label_with}
 use Rattle.fabric.specs.Steps.{BySteps}
-use Rattle.fabric.specs.Snake.{Shape, shape_of, Place, inside, turned, label_at, label_of, place_at, place_of, Placed, beside, mesh_near, address_at, place_with, mesh_addresses}
+use Rattle.fabric.specs.Snake.{Shape, shape_of, Place, inside, turned, label_at, label_of, place_at, place_of, Placed, beside, mesh_near, mesh_meaning, address_at, place_with, mesh_addresses}
 use Rattle.fabric.specs.Coding.{label_found, label_none}
 use Rattle.fabric.specs.Optional.{nothing, same, allowed_is, with_law}
 use Rattle.fabric.specs.Placing.{Placing, placed_lawful, placed_by_steps}
@@ -166,7 +166,7 @@ module _ (rows n : ℕ) where
       chain = chain;
     }
 
-    pub mesh_lawful : Lawful (rows * n) (mesh_near rows n)
+    pub mesh_lawful : Lawful (mesh_meaning rows n)
     mesh_lawful = placed_lawful In (rows * n) (place_at n) (label_at n) (beside rows n) mesh_placing
 
     -- the place of a label that exists

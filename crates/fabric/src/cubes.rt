@@ -3,7 +3,7 @@ ghost use Rattle.std.specs.Prelude.{◌≡◌, ◌^◌, ◌≤◌, nat_lt};
 ghost use Rattle.fabric.specs.Options.{allowed};
 ghost use Rattle.fabric.specs.Steps.{BySteps};
 ghost use Rattle.fabric.specs.Refusals.{told};
-ghost use Rattle.fabric.specs.Gray.{dimension_of, gray, ungray, flip, cube_near, cube_addresses, only_bit, port_to, LeadsTo};
+ghost use Rattle.fabric.specs.Gray.{dimension_of, gray, ungray, flip, cube_near, cube_meaning, cube_addresses, only_bit, port_to, LeadsTo};
 ghost use Rattle.fabric.specs.Grays.{cube_lawful, cube_placing, small_corner};
 ghost use Rattle.fabric.specs.Coding.{different, fits};
 
@@ -100,9 +100,7 @@ impl Cube {
 }
 
 impl Fabric for Cube {
-    ghost nodes = { λ c. 2 ^ c.dimension };
-
-    ghost near = { λ c. cube_near c.dimension };
+    ghost meaning = { λ c. cube_meaning c.dimension };
 
     ghost lawful = { λ c. cube_lawful c.dimension c.small };
 

@@ -33,7 +33,7 @@ impl Ranked for Exit {
 
 // Whether both labels exist.
 pub(crate) fn both_exist<F: Fabric>(fabric: &F, u: u8, v: u8) -> bool
-    ensures { result ≡ exist (F.Fabric.nodes fabric.now) u v }
+    ensures { result ≡ exist (F.Fabric.meaning fabric.now).nodes u v }
 {
     let size = fabric.size();
     u < size && v < size
@@ -41,7 +41,7 @@ pub(crate) fn both_exist<F: Fabric>(fabric: &F, u: u8, v: u8) -> bool
 
 // The eight ports of a node.
 fn exits<F: Fabric>(fabric: &F, from: u8, towards: u8) -> [Exit; 8]
-    ensures { result ≡ exits_of (F.Fabric.near fabric.now) from towards }
+    ensures { result ≡ exits_of (F.Fabric.meaning fabric.now).near from towards }
 {
     array::from_fn(|port| Exit {
         from,
@@ -53,8 +53,8 @@ fn exits<F: Fabric>(fabric: &F, from: u8, towards: u8) -> [Exit; 8]
 /// The neighbour of greatest label above `from` and not above `towards`, or of least label below and not below.
 /// There is none where the labels are equal or one of them does not exist.
 pub fn hop<F: Fabric>(fabric: &F, from: u8, towards: u8) -> Option<u8>
-    ensures is { result ≡ hop_of (F.Fabric.nodes fabric.now) (F.Fabric.near fabric.now) from towards }
-    ensures law { Hopped (F.Fabric.nodes fabric.now) (F.Fabric.near fabric.now) from towards result }
+    ensures is { result ≡ hop_of (F.Fabric.meaning fabric.now) from towards }
+    ensures law { Hopped (F.Fabric.meaning fabric.now) from towards result }
 {
     if !both_exist(fabric, from, towards) {
         return None;

@@ -2,7 +2,7 @@
 ghost use Rattle.std.specs.Prelude.{◌≡◌, ◌<◌, true, [], ◌∷◌, ◌++◌, length, Some, nat_lt};
 ghost use Rattle.fabric.specs.Fabrics.{SameMeaning};
 ghost use Rattle.fabric.specs.Refusals.{refusal};
-ghost use Rattle.fabric.specs.Links.{apart, joins, holds, unless_closed, is_at, neighbours, thinned, Thinned, close_refusal, closed_after, Closes};
+ghost use Rattle.fabric.specs.Links.{apart, joins, holds, unless_closed, neighbours, thinned, thinned_meaning, Thinned, close_refusal, closed_after, Closes};
 ghost use Rattle.fabric.specs.Layouts.{links_of};
 ghost use Rattle.fabric.specs.Closing.{thinned_lawful};
 
@@ -67,7 +67,7 @@ impl Closed {
 
 // Whether a port of `u` leads to `v`.
 fn are_neighbours<F: Fabric>(fabric: &F, u: u8, v: u8) -> bool
-    ensures { result ≡ neighbours (F.Fabric.near fabric.now) u v }
+    ensures { result ≡ neighbours (F.Fabric.meaning fabric.now).near u v }
 {
     (0..8).any(|port| fabric.neighbour(u, port) == Some(v))
 }
@@ -80,19 +80,17 @@ pub struct Layout<F: Fabric> {
 }
 
 impl<F: Fabric> Fabric for Layout<F> {
-    ghost nodes = { λ l. F.Fabric.nodes l.fabric };
+    ghost meaning = { λ l. thinned_meaning (links_of l.closed) (F.Fabric.meaning l.fabric) };
 
-    ghost near = { λ l. thinned (links_of l.closed) (F.Fabric.near l.fabric) };
-
-    ghost lawful = { λ l. thinned_lawful (links_of l.closed) (F.Fabric.near l.fabric) (F.Fabric.nodes l.fabric) l.closed.spared (F.Fabric.lawful l.fabric) };
+    ghost lawful = { λ l. thinned_lawful (links_of l.closed) (F.Fabric.meaning l.fabric) l.closed.spared (F.Fabric.lawful l.fabric) };
 
     fn size(&self) -> u8 {
         self.fabric.size()
     }
 
     fn neighbour(&self, label: u8, port: u8) -> Option<u8>
-        ensures is { result ≡ thinned (links_of self.now.closed) (F.Fabric.near self.now.fabric) label port }
-        ensures law { Thinned (links_of self.now.closed) (F.Fabric.near self.now.fabric) label port result }
+        ensures is { result ≡ thinned (links_of self.now.closed) (F.Fabric.meaning self.now.fabric).near label port }
+        ensures law { Thinned (links_of self.now.closed) (F.Fabric.meaning self.now.fabric).near label port result }
     {
         self.closed
             .unless_closed(label, self.fabric.neighbour(label, port)?)
@@ -119,7 +117,7 @@ impl<F: Fabric> Layout<F> {
     /// The fabric with all its links open.
     pub fn new(fabric: F) -> Layout<F>
         ensures is { (result.fabric ≡ fabric) × (links_of result.closed ≡ []) }
-        ensures law { SameMeaning (F.Fabric.nodes result.fabric) (thinned (links_of result.closed) (F.Fabric.near result.fabric)) (F.Fabric.nodes fabric) (F.Fabric.near fabric) }
+        ensures law { SameMeaning (thinned_meaning (links_of result.closed) (F.Fabric.meaning result.fabric)) (F.Fabric.meaning fabric) }
     {
         Layout {
             fabric,
@@ -136,7 +134,7 @@ impl<F: Fabric> Layout<F> {
 
     // The questions that are put before a link is closed.
     fn may_close(&self, link: (u8, u8)) -> Result<(), Refusal>
-        ensures { refusal result ≡ close_refusal (F.Fabric.nodes self.now.fabric) (F.Fabric.near self.now.fabric) (links_of self.now.closed) link }
+        ensures { refusal result ≡ close_refusal (F.Fabric.meaning self.now.fabric) (links_of self.now.closed) link }
     {
         let (u, v) = link;
         if !both_exist(&self.fabric, u, v) {
@@ -159,10 +157,10 @@ impl<F: Fabric> Layout<F> {
 
     /// Closes the link between two labels, in both directions, or says why not. A refusal leaves the layout as it was.
     pub fn close(&mut self, link: (u8, u8)) -> Result<(), Refusal>
-        ensures is { refusal result ≡ close_refusal (F.Fabric.nodes self.old.fabric) (F.Fabric.near self.old.fabric) (links_of self.old.closed) link }
+        ensures is { refusal result ≡ close_refusal (F.Fabric.meaning self.old.fabric) (links_of self.old.closed) link }
         ensures fabric { self.new.fabric ≡ self.old.fabric }
         ensures closed { links_of self.new.closed ≡ closed_after (refusal result) (links_of self.old.closed) link }
-        ensures law { Closes (F.Fabric.nodes self.old.fabric) (F.Fabric.near self.old.fabric) (links_of self.old.closed) link (thinned (links_of self.old.closed) (F.Fabric.near self.old.fabric)) (thinned (links_of self.new.closed) (F.Fabric.near self.new.fabric)) (refusal result) }
+        ensures law { Closes (F.Fabric.meaning self.old.fabric) (links_of self.old.closed) link (thinned (links_of self.old.closed) (F.Fabric.meaning self.old.fabric).near) (thinned (links_of self.new.closed) (F.Fabric.meaning self.new.fabric).near) (refusal result) }
     {
         self.may_close(link)?;
         self.closed.add(link);

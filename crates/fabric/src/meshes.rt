@@ -2,7 +2,7 @@
 ghost use Rattle.std.specs.Prelude.{◌≡◌, ◌*◌, ◌<◌};
 ghost use Rattle.fabric.specs.Steps.{BySteps};
 ghost use Rattle.fabric.specs.Refusals.{told};
-ghost use Rattle.fabric.specs.Snake.{Shape, shape_of, turned, label_of, place_at, place_of, Placed, beside, mesh_near, address_at, place_with, mesh_addresses};
+ghost use Rattle.fabric.specs.Snake.{Shape, shape_of, turned, label_of, place_at, place_of, Placed, beside, mesh_near, mesh_meaning, address_at, place_with, mesh_addresses};
 ghost use Rattle.fabric.specs.Snakes.{mesh_lawful, mesh_placing, one_address, small_address};
 ghost use Rattle.fabric.specs.Coding.{different};
 ghost use Rattle.fabric.specs.Coding;
@@ -99,9 +99,7 @@ impl Mesh {
 }
 
 impl Fabric for Mesh {
-    ghost nodes = { λ m. m.rows * m.columns };
-
-    ghost near = { λ m. mesh_near m.rows m.columns };
+    ghost meaning = { λ m. mesh_meaning m.rows m.columns };
 
     ghost lawful = { λ m. mesh_lawful m.rows m.columns m.fits };
 

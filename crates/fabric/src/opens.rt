@@ -1,6 +1,6 @@
 //! The fabric of a chart.
 ghost use Rattle.std.specs.Prelude.{◌≡◌, ◌≤◌, false, length, is_some};
-ghost use Rattle.fabric.specs.Chart.{records_of, chart_near, chart_addresses, Recorded, alone};
+ghost use Rattle.fabric.specs.Chart.{chart_near, chart_meaning, chart_addresses, Recorded, alone};
 ghost use Rattle.fabric.specs.Check.{fault, fault_of, Checked, opened_as};
 ghost use Rattle.fabric.specs.Copy.{Opened};
 ghost use Rattle.fabric.specs.Held.{bytes_of};
@@ -60,9 +60,7 @@ impl Chart {
 }
 
 impl Fabric for Chart {
-    ghost nodes = { λ c. records_of (bytes_of c) };
-
-    ghost near = { λ c. chart_near (bytes_of c) };
+    ghost meaning = { λ c. chart_meaning (bytes_of c) };
 
     ghost lawful = { λ c. let b = bytes_of c in chart_lawful b (held_sound b c.passed) };
 

@@ -26,10 +26,10 @@ impl Path {
 
 /// The labels on the way from a node to another, or none where one of them does not exist.
 pub fn way<F: Fabric>(fabric: &F, from: u8, to: u8) -> Option<Path>
-    ensures is { option_map labels_of result ≡ way_of (F.Fabric.nodes fabric.now) (F.Fabric.near fabric.now) from to }
-    ensures law { Travelled (F.Fabric.nodes fabric.now) (F.Fabric.near fabric.now) from to (option_map labels_of result) }
-    ensures hops { option_map hops_in result ≡ length_of (F.Fabric.nodes fabric.now) (F.Fabric.near fabric.now) from to }
-    ensures measured { Measured (F.Fabric.nodes fabric.now) (F.Fabric.near fabric.now) from to (option_map hops_in result) }
+    ensures is { option_map labels_of result ≡ way_of (F.Fabric.meaning fabric.now) from to }
+    ensures law { Travelled (F.Fabric.meaning fabric.now) from to (option_map labels_of result) }
+    ensures hops { option_map hops_in result ≡ length_of (F.Fabric.meaning fabric.now) from to }
+    ensures measured { Measured (F.Fabric.meaning fabric.now) from to (option_map hops_in result) }
 {
     if !both_exist(fabric, from, to) {
         return None;
@@ -45,8 +45,8 @@ pub fn way<F: Fabric>(fabric: &F, from: u8, to: u8) -> Option<Path>
 
 /// The number of hops from a node to another, or none where one of them does not exist.
 pub fn length<F: Fabric>(fabric: &F, from: u8, to: u8) -> Option<u8>
-    ensures is { result ≡ length_of (F.Fabric.nodes fabric.now) (F.Fabric.near fabric.now) from to }
-    ensures law { Measured (F.Fabric.nodes fabric.now) (F.Fabric.near fabric.now) from to result }
+    ensures is { result ≡ length_of (F.Fabric.meaning fabric.now) from to }
+    ensures law { Measured (F.Fabric.meaning fabric.now) from to result }
 {
     Some(way(fabric, from, to)?.hops())
 }

@@ -11,8 +11,8 @@ use crate::traits::Addressed;
 // Who asks for an address learns that each label has one (`long`).
 fn record_byte<F: Addressed>(fabric: &F, label: u8, place: u8) -> u8
     requires { place < 12 }
-    ensures is { result ≡ record_byte (F.Fabric.near fabric.now) (F.Addressed.addresses fabric.now) label place }
-    ensures long { place < 4 → length (F.Addressed.addresses fabric.now) ≡ F.Fabric.nodes fabric.now }
+    ensures is { result ≡ record_byte (F.Fabric.meaning fabric.now).near (F.Addressed.addresses fabric.now) label place }
+    ensures long { place < 4 → length (F.Addressed.addresses fabric.now) ≡ (F.Fabric.meaning fabric.now).nodes }
 {
     if place < 4 {
         let address = fabric.address(label).unwrap_or(0);
@@ -25,9 +25,9 @@ fn record_byte<F: Addressed>(fabric: &F, label: u8, place: u8) -> u8
 /// Writes the chart of a fabric over the front of a buffer, and answers its length.
 /// A buffer that is too short stays as it is.
 pub fn write_chart<F: Addressed>(fabric: &F, buffer: &mut [u8]) -> Result<usize, Refusal>
-    ensures says { told (λ n. n) result ≡ length_written (F.Fabric.nodes fabric.now) buffer.old }
-    ensures does { buffer.new ≡ written (F.Fabric.nodes fabric.now) (F.Fabric.near fabric.now) (F.Addressed.addresses fabric.now) buffer.old }
-    ensures law { Copied result buffer.new (F.Fabric.nodes fabric.now) (F.Fabric.near fabric.now) (F.Addressed.addresses fabric.now) }
+    ensures says { told (λ n. n) result ≡ length_written (F.Fabric.meaning fabric.now) buffer.old }
+    ensures does { buffer.new ≡ written (F.Fabric.meaning fabric.now) (F.Addressed.addresses fabric.now) buffer.old }
+    ensures law { Copied result buffer.new (F.Fabric.meaning fabric.now) (F.Addressed.addresses fabric.now) }
 {
     let length = 12 * usize::from(fabric.size());
     if buffer.len() < length {

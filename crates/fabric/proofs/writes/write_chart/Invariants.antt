@@ -7,4 +7,4 @@ use Rattle.fabric.proofs.writes.write_chart.Given as goal
 abbrev pub invariant-loop-i : goal.invariant-loop-i
 invariant-loop-i g l =
     let addresses = g.F.Addressed.addresses l.fabric in
-    (l.byte-items ≡ map (chart_byte (g.F.Fabric.near l.fabric) addresses) (range_with_len 0 l.i) ++ drop l.i l.initial.byte-items) × (0 < l.i → length addresses ≡ g.F.Fabric.nodes l.fabric)
+    (l.byte-items ≡ map (chart_byte (g.F.Fabric.meaning l.fabric).near addresses) (range_with_len 0 l.i) ++ drop l.i l.initial.byte-items) × (0 < l.i → length addresses ≡ (g.F.Fabric.meaning l.fabric).nodes)

@@ -17,13 +17,13 @@ returns-in_err-may_close g c =
       is = is;
       fabric = refl;
       closed = same_list;
-      law = close_as (g.F.Fabric.nodes l.fabric) (g.F.Fabric.near l.fabric) (g.met.F.Fabric.lawful l.fabric) (links_of l.closed) c.args.link _ _ is same_list;
+      law = close_as (g.F.Fabric.meaning l.fabric) (g.met.F.Fabric.lawful l.fabric) (links_of l.closed) c.args.link _ _ is same_list;
     }
 
 pub add-requires : goal.add-requires
 add-requires g c =
     let l = c.args.self.now in
-    let e = may_close (g.F.Fabric.nodes l.fabric) (g.F.Fabric.near l.fabric) (g.met.F.Fabric.lawful l.fabric) (links_of l.closed) c.args.link (sym c.in_ok-may_close.ensures) in
+    let e = may_close (g.F.Fabric.meaning l.fabric) (g.met.F.Fabric.lawful l.fabric) (links_of l.closed) c.args.link (sym c.in_ok-may_close.ensures) in
     record { room = e.1; spares = e.0 }
 
 pub returns : goal.returns
@@ -34,5 +34,5 @@ returns g c =
       is = e;
       fabric = refl;
       closed = c.add.ensures;
-      law = close_as (g.F.Fabric.nodes l.fabric) (g.F.Fabric.near l.fabric) (g.met.F.Fabric.lawful l.fabric) (links_of l.closed) c.args.link _ _ e c.add.ensures;
+      law = close_as (g.F.Fabric.meaning l.fabric) (g.met.F.Fabric.lawful l.fabric) (links_of l.closed) c.args.link _ _ e c.add.ensures;
     }

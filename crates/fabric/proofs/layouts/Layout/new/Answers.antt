@@ -5,7 +5,7 @@ use Rattle.fabric.proofs.layouts.Layout.new.Goals as goal
 
 pub returns : goal.returns
 returns g c =
-    let near = g.F.Fabric.near c.args.fabric in
+    let near = (g.F.Fabric.meaning c.args.fabric).near in
     record {
       is = (refl, c.none.ensures);
       law = record { size = refl; answers = λ u p. ap (λ ls. thinned ls near u p) c.none.ensures ∙ all_open near u p };
