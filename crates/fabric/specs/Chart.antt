@@ -36,9 +36,9 @@ chart_meaning b = record { nodes = records_of b; near = chart_near b }
 abbrev pub chart_addresses : List ℕ → List ℕ
 chart_addresses b = map (address_at b) (range_with_len 0 (records_of b))
 
--- the first record that has an address
-abbrev pub record_with : List ℕ → ℕ → Option ℕ
-record_with b a = find (λ k. address_at b k == a) (range_with_len 0 (records_of b))
+-- the first of n records that has an address
+abbrev pub record_with : List ℕ → ℕ → ℕ → Option ℕ
+record_with b n a = find (λ k. address_at b k == a) (range_with_len 0 n)
 
 -- In plain terms: the answer is v exactly where there is such a record and port, and the port holds v, which is not 255.
 abbrev pub Recorded : List ℕ → ℕ → ℕ → Option ℕ → Type 0

@@ -158,7 +158,7 @@ first_with f x a (suc n) = go (first_with f x (a + 1) n) (f a == x)
     go e false = e ∙ shifted rest
 
 -- what `label_of` owes
-pub record_as : (b : List ℕ) (x : ℕ) (r : Option ℕ) → r ≡ record_with b x → record { is : r ≡ label_with (chart_addresses b) x; law : Located (chart_addresses b) x r; long : length (chart_addresses b) ≡ records_of b }
+pub record_as : (b : List ℕ) (x : ℕ) (r : Option ℕ) → r ≡ record_with b (records_of b) x → record { is : r ≡ label_with (chart_addresses b) x; law : Located (chart_addresses b) x r; long : length (chart_addresses b) ≡ records_of b }
 record_as b x r e =
     let found = with_law (Located (chart_addresses b) x) _ (located (chart_addresses b) x) r (e ∙ first_with (address_at b) x 0 (records_of b) ∙ from_zero (label_with (chart_addresses b) x)) in
     record { is = found.is; law = found.law; long = length-map-range_with_len (address_at b) 0 (records_of b) }

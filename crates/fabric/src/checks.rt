@@ -1,5 +1,5 @@
 //! The records of a chart, and its check: question after question, each over all records.
-ghost use Rattle.std.specs.Prelude.{◌≡◌, ◌*◌, ◌<◌, ◌≤◌, length, nat_lt, slice_index};
+ghost use Rattle.std.specs.Prelude.{◌≡◌, ◌*◌, ◌<◌, ◌≤◌, nat_lt, slice_index};
 ghost use Rattle.fabric.specs.Chart.{records_of, port_at, named_at, address_at, record_with, chart_near, whole};
 ghost use Rattle.fabric.specs.Check.{names, taken, passes, passes_at, found, fault, fault_of};
 ghost use Rattle.fabric.specs.Options.{allowed};
@@ -88,12 +88,11 @@ pub(crate) fn address_in(bytes: &[u8], label: u8) -> Option<u32>
     (usize::from(label) < records(bytes)).then(|| address_at(bytes, label))
 }
 
-// The first record that has an address, or none where none has it.
-pub(crate) fn label_in(bytes: &[u8], address: u32) -> Option<u8>
-    requires { records_of bytes.now ≤ 128 }
-    ensures { result ≡ record_with bytes.now address }
+// The first of so many records that has an address, or none where none has it.
+pub(crate) fn label_in(bytes: &[u8], count: u8, address: u32) -> Option<u8>
+    ensures { result ≡ record_with bytes.now count address }
 {
-    (0..records(bytes) as u8).find(|label| address_at(bytes, *label) == address)
+    (0..count).find(|label| address_at(bytes, *label) == address)
 }
 
 // Whether one of the first ports of a record names the label.
@@ -131,25 +130,21 @@ fn passes(bytes: &[u8], question: Question, label: u8, port: u8) -> bool
 
 // The first place at which a question fails: place i is port i % 8 of record i / 8.
 fn failing(bytes: &[u8], question: Question) -> Option<usize>
-    requires { length bytes.now ≤ 1536 }
+    requires { records_of bytes.now ≤ 128 }
     ensures { result ≡ first_fail (passes_at question bytes.now) (8 * records_of bytes.now) }
 {
-    (0..8 * records(bytes)).find(|place| !passes(
-        bytes,
-        question,
-        (place / 8) as u8,
-        (place % 8) as u8,
-    ))
+    (0..8 * records(bytes))
+        .find(|place| !passes(bytes, question, (place / 8) as u8, (place % 8) as u8))
 }
 
 // The first fault by a question: the one scan for all questions.
 fn scan(bytes: &[u8], question: Question) -> Result<(), ChartFault>
-    requires { length bytes.now ≤ 1536 }
+    requires { records_of bytes.now ≤ 128 }
     ensures { fault_of result ≡ found bytes.now question }
 {
     match failing(bytes, question) {
         Some(place) => Err(ChartFault {
-            refusal: question.refusal(),
+            refusal: question.into(),
             record: (place / 8) as u8,
             port: (place % 8) as u8,
         }),

@@ -88,6 +88,6 @@ impl Addressed for Chart {
     }
 
     fn label_of(&self, address: u32) -> Option<u8> {
-        label_in(self.bytes(), address)
+        label_in(self.bytes(), self.size(), address)
     }
 }

@@ -21,12 +21,12 @@ pub(crate) enum Question {
     Next,
 }
 
-impl Question {
-    // Why a chart is refused that fails the question.
-    pub(crate) fn refusal(&self) -> Refusal
-        ensures { result ≡ refusal_of self.now }
-    {
-        match self {
+// Why a chart is refused that fails the question.
+impl From<Question> for Refusal {
+    ghost from_gives = { λ question refusal. refusal ≡ refusal_of question };
+
+    fn from(question: Question) -> Refusal {
+        match question {
             Question::Exists => Refusal::ChartLabel,
             Question::Other => Refusal::ChartSelf,
             Question::New => Refusal::ChartTwice,

@@ -16,7 +16,7 @@ pub returns-in-Some : goal.returns-in-Some
 unfolding found
 returns-in-Some c =
     let i = c.in-Some.place in
-    ap (λ r. Some (number_of r, i / 8, i % 8)) c.refusal.ensures ∙ ap (option_map (fault_at c.args.question)) c.in-Some.ensures
+    ap (λ r. Some (number_of r, i / 8, i % 8)) c.into.ensures ∙ ap (option_map (fault_at c.args.question)) c.in-Some.ensures
 
 pub returns-in-None : goal.returns-in-None
 unfolding found
