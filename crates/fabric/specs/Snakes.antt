@@ -1,13 +1,13 @@
 -- The snake-labelled mesh is a lawful fabric, and its addresses are all different.
-use Rattle.std.specs.Prelude.{◌≡◌, ℕ, zero, suc, ◌+◌, ◌-◌, ◌*◌, ◌/◌, ◌%◌, ◌^◌, ◌<◌, ◌≤◌, Bool, true, false, cond, ◌&&◌, ◌⊎◌, Some, None, Ok, Err, Option, Result, ◌==◌, nat_le, nat_lt, refl}
-use Rattle.std.specs.Option.{option_map}
+use Rattle.std.specs.Prelude.{◌≡◌, ℕ, zero, suc, ◌+◌, ◌-◌, ◌*◌, ◌/◌, ◌%◌, ◌^◌, ◌<◌, ◌≤◌, Bool, true, false, cond, ◌&&◌, ◌⊎◌, Some, None, Ok, Err, Option, Result, ◌==◌, nat_le, nat_lt, length, refl}
+use Rattle.std.specs.Option.{option_and_then}
 use Rattle.std.proofs.Common.{sym, ap, ap₂, subst, ◌∙◌, inl, inr, ⊎_elim, arith}
 use Rattle.std.proofs.lemmas.Nat.{div-add-mod', div-mul-add, mod-mul-add, mul-add-lt, div_below, mod_below, mul-le}
 use Rattle.std.proofs.lemmas.Bool.{cases_lt, both_ways, ltb-true, lt-ltb, leb-true, eq-eqb, ne_eqb, cond-true, cond-false, and_from, and_parts}
-use Rattle.fabric.specs.Fabrics.{Lawful, label_with}
+use Rattle.fabric.specs.Fabrics.{Lawful, label_with, Located}
 use Rattle.fabric.specs.Steps.{BySteps}
 use Rattle.fabric.specs.Snake.{Shape, shape_of, Place, inside, turned, label_at, label_of, place_at, place_of, Placed, beside, mesh_near, address_at, place_with, mesh_addresses}
-use Rattle.fabric.specs.Coding.{label_found, label_none}
+use Rattle.fabric.specs.Coding.{label_as, label_found, label_none}
 use Rattle.fabric.specs.Optional.{nothing, same, allowed_is, with_law}
 use Rattle.fabric.specs.Placing.{Placing, placed_lawful, placed_by_steps}
 
@@ -24,6 +24,9 @@ shapeless r c out = go (nat_le 1 r && nat_le 1 c && nat_le (r * c) 128) refl
         let q = and_parts _ _ p.0 in
         absurd (out (leb-true 1 r q.0, leb-true 1 c q.1, leb-true (r * c) 128 p.1))
     go false e = refl
+
+pub oversized : (rows columns : ℕ) → (rows ≤ 128 → columns ≤ 128 → ⊥) → Err 1 ≡ shape_of rows columns
+oversized r c h = shapeless r c (λ s. let n = narrow r c s in h n.0 n.1)
 
 -- a row goes forth or back
 turned_is : (n y x : ℕ) → ((y % 2 ≡ 0) × (turned n y x ≡ x)) ⊎ ((y % 2 ≡ 1) × (turned n y x ≡ n - x - 1))
@@ -192,15 +195,6 @@ module _ (rows n : ℕ) where
     pub mesh_near_as : (k p : ℕ) (r : Option ℕ) → r ≡ mesh_near rows n k p → record { is : r ≡ mesh_near rows n k p; law : BySteps (rows * n) (place_at n) (beside rows n) k p r }
     mesh_near_as k p = with_law (BySteps (rows * n) (place_at n) (beside rows n) k p) _ (placed_by_steps In (rows * n) (place_at n) (label_at n) (beside rows n) mesh_placing k p)
 
-    -- a neighbour, found by its place
-    pub near_at : (k p : ℕ) (a b : Place) → Some a ≡ place_of rows n k → Some b ≡ beside rows n a p → label_of rows n b ≡ mesh_near rows n k p
-    near_at k p a b e f =
-        let h = at_place k a e in
-        let i = (reaches p a b h.2 (moves p a b (sym f))).1 in
-        label_inside b i
-        ∙ ap (option_map (label_at n)) (f ∙ ap (λ c. beside rows n c p) (sym h.1))
-        ∙ sym (cond-true (nat_lt k (rows * n)) (option_map (label_at n) (beside rows n (place_at n k) p)) None (lt-ltb k (rows * n) h.0))
-
     pub one_address : (a b : Place) → In a → In b → address_at a ≡ address_at b → a ≡ b
     one_address a b i j e = let w = narrow rows n shape in pair a b (omega arith) (omega arith)
 
@@ -214,18 +208,19 @@ module _ (rows n : ℕ) where
         cond-true (nat_lt x 65536) (Some (x % 256, x / 256)) None (lt-ltb x 65536 (omega arith)) ∙ ap Some (pair (x % 256, x / 256) a (omega arith) (omega arith))
 
     -- so the label with an address is that of its place, and there is none for a place off the mesh
-    pub label_by_place : (x : ℕ) (a : Place) → Some a ≡ place_with x → label_of rows n a ≡ label_with (mesh_addresses rows n) x
-    label_by_place x a e = go (inside rows n a) refl
+    by_place : (x : ℕ) (o : Option Place) → place_with x ≡ o → option_and_then (label_of rows n) o ≡ label_with (mesh_addresses rows n) x
+    by_place x None e = label_none mesh_placing address_at x (λ b i g. nothing (sym e ∙ with_address x b i g))
+    by_place x (Some a) e = go (inside rows n a) refl
       where
         go : (t : Bool) → inside rows n a ≡ t → label_of rows n a ≡ label_with (mesh_addresses rows n) x
         go true f =
-            let h = allowed_is (nat_lt x 65536) (sym e) in
+            let h = allowed_is (nat_lt x 65536) e in
             let whole : address_at a ≡ x = omega (arith, ap (λ (b : Place). b.0) h.1, ap (λ (b : Place). b.1) h.1) in
             let i = within a f in
             label_inside a i ∙ label_found mesh_placing address_at one_address a i ∙ ap (label_with (mesh_addresses rows n)) whole
         go false f =
             cond-false (inside rows n a) (Some (label_at n a)) None f
-            ∙ label_none mesh_placing address_at x (λ b i g. both_ways (inside rows n a) f (subst (λ c. inside rows n c ≡ true) (same (sym (e ∙ with_address x b i g))) (inside_true b i)))
+            ∙ label_none mesh_placing address_at x (λ b i g. both_ways (inside rows n a) f (subst (λ c. inside rows n c ≡ true) (same (sym (with_address x b i g) ∙ e)) (inside_true b i)))
 
-    pub label_off : (x : ℕ) → None ≡ place_with x → None ≡ label_with (mesh_addresses rows n) x
-    label_off x e = label_none mesh_placing address_at x (λ b i g. nothing (e ∙ with_address x b i g))
+    pub mesh_label_as : (x : ℕ) (r : Option ℕ) → r ≡ option_and_then (label_of rows n) (place_with x) → record { is : r ≡ label_with (mesh_addresses rows n) x; law : Located (mesh_addresses rows n) x r; long : length (mesh_addresses rows n) ≡ rows * n }
+    mesh_label_as x r e = label_as mesh_placing address_at x r (e ∙ by_place x (place_with x) refl)
