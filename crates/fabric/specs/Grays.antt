@@ -3,9 +3,11 @@ use Rattle.std.specs.Prelude.{◌≡◌, ℕ, zero, suc, ◌+◌, ◌/◌, ◌^�
 use Rattle.std.proofs.Common.{sym, ap, subst, ◌∙◌, ⊎_elim, arith}
 use Rattle.std.specs.Int.Bits.{xor_assoc, xor_self, xor_zero_l, xor_zero_r}
 use Rattle.std.specs.Int.Count.{ones, ones_in, count_trailing_zeros}
+use Rattle.std.proofs.Math.Pow.{pow_mono}
 use Rattle.std.proofs.lemmas.Nat.{pow_pos, pow_below, shr_le, xor_lt}
-use Rattle.std.proofs.lemmas.Bool.{both_ways, not-true, eqb-true, eq-eqb, ltb-true, ltb-false, lt-ltb, and_parts, or_cases, cond-true, cases_lt, cases_order}
+use Rattle.std.proofs.lemmas.Bool.{both_ways, not-true, eqb-true, eq-eqb, ltb-true, ltb-false, and_parts, or_cases, cond-true, cases_lt}
 use Rattle.std.proofs.lemmas.Bool.Decides.{Decides-below_and}
+use Rattle.std.proofs.lemmas.Bool.Decides.{nat_tests}
 use Rattle.fabric.specs.Fabrics.{Lawful, label_with, Located}
 use Rattle.fabric.specs.Gray.{folded, gray, ungray, flip, cube_near, cube_addresses, only_bit, port_to, LeadsTo}
 use Rattle.fabric.specs.Hop.{exist}
@@ -83,14 +85,10 @@ xor_again a b = xor_assoc a b b ∙ ap (bit_xor a) (xor_self b) ∙ xor_zero_r a
 
 -- powers of two are in the order of their exponents
 pow_one : (p q : ℕ) → 2 ^ p ≡ 2 ^ q → p ≡ q
-pow_one p q e = ⊎_elim (λ s. s) (⊎_elim (λ l. omega (arith, pow_below p q l)) (λ l. omega (arith, pow_below q p l))) (cases_order p q)
+pow_one p q e = grind (arith, pow_below)
 
 below_pow : (p q : ℕ) → 2 ^ p < 2 ^ q → p < q
-below_pow p q l =
-    ⊎_elim
-    (λ e. absurd (let z : ⊥ = omega (arith, ap (λ x. 2 ^ x) e) in z))
-    (⊎_elim (λ m. m) (λ m. absurd (let z : ⊥ = omega (arith, pow_below q p m) in z)))
-    (cases_order p q)
+below_pow p q l = ⊎_elim (λ m. m) (λ m. omega (arith, pow_mono m)) (cases_lt p q)
 
 folded_below : (d by x : ℕ) → x < 2 ^ d → folded by x < 2 ^ d
 folded_below d by x h = xor_lt d x (x / 2 ^ by) h (omega (arith, shr_le x by))
@@ -100,14 +98,14 @@ module _ (d : ℕ) (small : d ≤ 7) where
   Corner a = a < 2 ^ d
 
   few : 2 ^ d ≤ 128
-  few = ⊎_elim (λ l. omega (arith, pow_below d 7 l)) (λ l. let e : d ≡ 7 = omega arith in omega (arith, ap (λ x. 2 ^ x) e)) (cases_lt d 7)
+  few = pow_mono small
 
   -- what a port leads to
   flips : (a b p : ℕ) → flip d a p ≡ Some b → (p < d) × (bit_xor a (2 ^ p) ≡ b)
-  flips a b p e = let h = allowed_is (nat_lt p d) e in (ltb-true p d h.0, h.1)
+  flips a b p e = grind (arith, nat_tests)
 
   flip_is : (a p : ℕ) → p < d → flip d a p ≡ Some (bit_xor a (2 ^ p))
-  flip_is a p h = cond-true (nat_lt p d) (Some (bit_xor a (2 ^ p))) None (lt-ltb p d h)
+  flip_is a p h = grind (arith, nat_tests)
 
   reaches : (a b p : ℕ) → Corner a → flip d a p ≡ Some b → (p < 8) × Corner b
   reaches a b p i e =
