@@ -1,10 +1,11 @@
 -- Addresses by a code for places are all different, and each leads back to its label.
 use Rattle.std.specs.Prelude.{◌≡◌, ℕ, zero, suc, ◌+◌, ◌^◌, ◌<◌, Bool, true, false, cond, List, [], ◌∷◌, length, Some, None, Option, ◌==◌, ◌≢◌, nat_lt, refl}
 use Rattle.std.specs.Option.{option_map}
-use Rattle.std.proofs.Common.{sym, ap, subst, ◌∙◌, add-one}
+use Rattle.std.proofs.Common.{sym, ap, subst, ◌∙◌, add-one, arith}
 use Rattle.std.specs.List.{slice_get}
 use Rattle.std.proofs.lemmas.List.FromFn.{length-map-range_with_len}
-use Rattle.std.proofs.lemmas.Bool.{eqb-true, eqb-false, ltb-true, ltb-false}
+use Rattle.std.proofs.lemmas.Bool.{eqb-true, eqb-false}
+use Rattle.std.proofs.lemmas.Bool.Decides.{nat_tests}
 use Rattle.fabric.specs.Fabrics.{AllDifferent, AllFit, label_with, Located}
 use Rattle.fabric.specs.Options.{allowed}
 use Rattle.fabric.specs.Steps.{codes}
@@ -55,11 +56,7 @@ module _ {P : Type 0} {In : P → Type 0} {nodes : ℕ} {place : ℕ → P} {lab
   fits small i x e = let p = counted_nth address_of nodes i x e in subst (λ (a : ℕ). a < 2 ^ 32) p.1 (small (place i) (law.placed i p.0))
 
   pub address_is : (k : ℕ) → allowed (nat_lt k nodes) (address_of k) ≡ slice_get (codes nodes place code) k
-  address_is k = go (nat_lt k nodes) refl
-    where
-      go : (t : Bool) → nat_lt k nodes ≡ t → allowed t (address_of k) ≡ slice_get (codes nodes place code) k
-      go true e = sym (nth_counted address_of nodes k (ltb-true k nodes e))
-      go false e = sym (nth_past_count address_of nodes k (ltb-false k nodes e))
+  address_is k = grind (arith, nat_tests, nth_counted address_of nodes k, nth_past_count address_of nodes k)
 
   -- what `address` owes, from the address alone
   pub address_as : (k : ℕ) (r : Option ℕ) → r ≡ allowed (nat_lt k nodes) (address_of k) → record { is : r ≡ slice_get (codes nodes place code) k; long : length (codes nodes place code) ≡ nodes }
