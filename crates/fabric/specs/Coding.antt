@@ -1,15 +1,16 @@
 -- Addresses by a code for places are all different, and each leads back to its label.
 use Rattle.std.specs.Prelude.{◌≡◌, ℕ, zero, suc, ◌+◌, ◌^◌, ◌<◌, Bool, true, false, cond, List, [], ◌∷◌, length, Some, None, Option, ◌==◌, ◌≢◌, nat_lt, refl}
 use Rattle.std.specs.Option.{option_map}
-use Rattle.std.proofs.Common.{sym, ap, subst, ◌∙◌, ⊎_elim, add-one}
+use Rattle.std.proofs.Common.{sym, ap, subst, ◌∙◌, add-one, arith}
 use Rattle.std.specs.List.{slice_get}
 use Rattle.std.proofs.lemmas.List.FromFn.{length-map-range_with_len}
-use Rattle.std.proofs.lemmas.Bool.{eqb-true, eqb-false, lt-ltb, ltb-true, cond-true, cond-false, cases_lt}
+use Rattle.std.proofs.lemmas.Bool.{eqb-true, eqb-false}
+use Rattle.std.proofs.lemmas.Bool.Decides.{nat_tests}
 use Rattle.fabric.specs.Fabrics.{AllDifferent, AllFit, label_with, Located}
 use Rattle.fabric.specs.Options.{allowed}
 use Rattle.fabric.specs.Steps.{codes}
 use Rattle.fabric.specs.Counting.{nth_counted, nth_past_count, counted_nth}
-use Rattle.fabric.specs.Optional.{nothing, same, allowed_is, each_is, each_none, with_law}
+use Rattle.fabric.specs.Optional.{nothing, same, each_is, each_none, with_law}
 use Rattle.fabric.specs.Placing.{Placing}
 
 -- the label with an address is the one that has it, in plain terms
@@ -54,24 +55,12 @@ module _ {P : Type 0} {In : P → Type 0} {nodes : ℕ} {place : ℕ → P} {lab
   pub fits : ((a : P) → In a → code a < 2 ^ 32) → AllFit (codes nodes place code)
   fits small i x e = let p = counted_nth address_of nodes i x e in subst (λ (a : ℕ). a < 2 ^ 32) p.1 (small (place i) (law.placed i p.0))
 
-  pub address_at_lem : (k : ℕ) (a : P) → Some a ≡ allowed (nat_lt k nodes) (place k) → Some (code a) ≡ slice_get (codes nodes place code) k
-  address_at_lem k a e =
-      let h = allowed_is (nat_lt k nodes) (sym e) in
-      ap (λ b. Some (code b)) (sym h.1) ∙ sym (nth_counted address_of nodes k (ltb-true k nodes h.0))
-
-  pub address_none : (k : ℕ) → None ≡ allowed (nat_lt k nodes) (place k) → None ≡ slice_get (codes nodes place code) k
-  address_none k e =
-      ⊎_elim
-      (λ h. absurd (nothing (e ∙ cond-true (nat_lt k nodes) (Some (place k)) None (lt-ltb k nodes h))))
-      (λ h. sym (nth_past_count address_of nodes k h))
-      (cases_lt k nodes)
-
   pub address_is : (k : ℕ) → allowed (nat_lt k nodes) (address_of k) ≡ slice_get (codes nodes place code) k
-  address_is k = go (nat_lt k nodes) refl
-    where
-      go : (t : Bool) → nat_lt k nodes ≡ t → allowed t (address_of k) ≡ slice_get (codes nodes place code) k
-      go true e = address_at_lem k (place k) (sym (cond-true (nat_lt k nodes) (Some (place k)) None e))
-      go false e = address_none k (sym (cond-false (nat_lt k nodes) (Some (place k)) None e))
+  address_is k = grind (arith, nat_tests, nth_counted address_of nodes k, nth_past_count address_of nodes k)
+
+  -- what `address` owes, from the address alone
+  pub address_as : (k : ℕ) (r : Option ℕ) → r ≡ allowed (nat_lt k nodes) (address_of k) → record { is : r ≡ slice_get (codes nodes place code) k; long : length (codes nodes place code) ≡ nodes }
+  address_as k r e = record { is = e ∙ address_is k; long = long }
 
   pub label_none : (x : ℕ) → ((a : P) → In a → code a ≢ x) → None ≡ label_with (codes nodes place code) x
   label_none x out =

@@ -1,17 +1,15 @@
 -- The entries of a list that is made from a function of the place.
 use Rattle.std.specs.Prelude.{◌≡◌, ℕ, ◌<◌, ◌≤◌, map, Some, None}
-use Rattle.std.proofs.Common.{sym, ap, ◌∙◌, ⊎_elim, arith}
+use Rattle.std.proofs.Common.{sym, ◌∙◌, ⊎_elim, arith}
 use Rattle.std.specs.List.{slice_get, range_with_len}
 use Rattle.std.proofs.lemmas.List.FromFn.{length-map-range_with_len, get_or-map-range_with_len}
-use Rattle.std.proofs.lemmas.Option.{slice_get-get_or, slice_get_past}
+use Rattle.std.proofs.lemmas.Option.{slice_get_read, slice_get_past}
 use Rattle.std.proofs.lemmas.Bool.{cases_lt}
 use Rattle.fabric.specs.Optional.{nothing, same}
 
 module _ {X : Type 0} (f : ℕ → X) (n j : ℕ) where
   pub nth_counted : j < n → slice_get (map f (range_with_len 0 n)) j ≡ Some (f j)
-  nth_counted h =
-      let long = length-map-range_with_len f 0 n in
-      slice_get-get_or (map f (range_with_len 0 n)) j (f j) (omega arith) ∙ ap Some (get_or-map-range_with_len f 0 n j j (f j) h (omega arith))
+  nth_counted h = slice_get_read (map f (range_with_len 0 n)) n j (f j) (sym (length-map-range_with_len f 0 n)) h (sym (get_or-map-range_with_len f 0 n j j (f j) h (omega arith)))
 
   pub nth_past_count : n ≤ j → slice_get (map f (range_with_len 0 n)) j ≡ None
   nth_past_count h = let long = length-map-range_with_len f 0 n in slice_get_past (map f (range_with_len 0 n)) j (omega arith)

@@ -1,18 +1,19 @@
 -- The rule of the Gray code, tested once over its whole table; and the laws of the cube from it.
-use Rattle.std.specs.Prelude.{◌≡◌, ℕ, zero, suc, ◌+◌, ◌/◌, ◌^◌, ◌<◌, ◌≤◌, Bool, true, false, not, ◌&&◌, ◌||◌, ◌↔◌, length, Some, None, Option, ◌==◌, ◌≢◌, bit_xor, nat_lt, refl}
+use Rattle.std.specs.Prelude.{◌≡◌, ℕ, zero, suc, ◌+◌, ◌/◌, ◌^◌, ◌<◌, ◌≤◌, Bool, true, false, not, ◌&&◌, ◌||◌, ◌↔◌, length, Some, Option, ◌==◌, ◌≢◌, bit_xor, nat_lt, refl}
 use Rattle.std.proofs.Common.{sym, ap, subst, ◌∙◌, ⊎_elim, arith}
 use Rattle.std.specs.Int.Bits.{xor_assoc, xor_self, xor_zero_l, xor_zero_r}
 use Rattle.std.specs.Int.Count.{ones, ones_in, count_trailing_zeros}
+use Rattle.std.proofs.Math.Pow.{pow_mono}
 use Rattle.std.proofs.lemmas.Nat.{pow_pos, pow_below, shr_le, xor_lt}
-use Rattle.std.proofs.lemmas.Bool.{both_ways, not-true, eqb-true, eq-eqb, ltb-true, ltb-false, lt-ltb, and_parts, or_cases, cond-true, cases_lt, cases_order}
-use Rattle.std.proofs.lemmas.Bool.Decides.{Decides-below_and}
+use Rattle.std.proofs.lemmas.Bool.{eqb-true, ltb-true, ltb-false, cases_lt}
+use Rattle.std.proofs.lemmas.Bool.Decides.{Decides-below_and, nat_tests}
 use Rattle.fabric.specs.Fabrics.{Lawful, label_with, Located}
-use Rattle.fabric.specs.Gray.{folded, gray, ungray, flip, cube_near, cube_meaning, cube_addresses, only_bit, port_to, LeadsTo}
+use Rattle.fabric.specs.Gray.{folded, gray, ungray, flip, cube_near, cube_meaning, cube_addresses, port_to, LeadsTo}
 use Rattle.fabric.specs.Hop.{exist}
 use Rattle.fabric.specs.Steps.{BySteps}
 use Rattle.fabric.specs.Options.{allowed}
 use Rattle.fabric.specs.Coding.{label_as, label_found, label_none}
-use Rattle.fabric.specs.Hopping.{exist_true, true_exist}
+use Rattle.fabric.specs.Hopping.{true_exist}
 use Rattle.fabric.specs.Optional.{allowed_is, cond_is, with_law}
 use Rattle.fabric.specs.Placing.{Placing, placed_lawful, placed_by_steps}
 
@@ -51,28 +52,14 @@ power_table : all_below power 7 ≡ true
 unfolding ones ones_in count_trailing_zeros
 power_table = refl
 
-module _ (k : ℕ) (h : k < 128) where
-  parts : ((ungray (gray k) == k) ≡ true) × ((gray (ungray k) == k && bit_xor (gray k) (2 ^ changes k) == gray (k + 1)) ≡ true)
-  parts = and_parts _ _ (entry rule 128 rule_table k h)
+coded : (k : ℕ) → k < 128 → (ungray (gray k) ≡ k) × (gray (ungray k) ≡ k) × (bit_xor (gray k) (2 ^ changes k) ≡ gray (k + 1))
+coded k h = let r = entry rule 128 rule_table k h in grind (arith, nat_tests)
 
-  ungray_gray : ungray (gray k) ≡ k
-  ungray_gray = eqb-true (ungray (gray k)) k parts.0
-
-  gray_ungray : gray (ungray k) ≡ k
-  gray_ungray = eqb-true (gray (ungray k)) k (and_parts _ _ parts.1).0
-
-  gray_next : bit_xor (gray k) (2 ^ changes k) ≡ gray (k + 1)
-  gray_next = eqb-true (bit_xor (gray k) (2 ^ changes k)) (gray (k + 1)) (and_parts (gray (ungray k) == k) _ parts.1).1
-
-  single_one : ones k ≡ 1 → 2 ^ count_trailing_zeros 8 k ≡ k
-  single_one e =
-      ⊎_elim
-      (λ f. absurd (both_ways (ones k == 1) (not-true _ f) (eq-eqb (ones k) 1 e)))
-      (λ f. eqb-true (2 ^ count_trailing_zeros 8 k) k f)
-      (or_cases (not (ones k == 1)) _ (entry single 128 single_table k h))
+single_one : (k : ℕ) → k < 128 → ones k ≡ 1 → 2 ^ count_trailing_zeros 8 k ≡ k
+single_one k h e = let s = entry single 128 single_table k h in grind (arith, nat_tests)
 
 power_one : (p : ℕ) → p < 7 → (ones (2 ^ p) ≡ 1) × (count_trailing_zeros 8 (2 ^ p) ≡ p)
-power_one p h = let e = and_parts _ _ (entry power 7 power_table p h) in (eqb-true (ones (2 ^ p)) 1 e.0, eqb-true (count_trailing_zeros 8 (2 ^ p)) p e.1)
+power_one p h = let e = entry power 7 power_table p h in grind (arith, nat_tests)
 
 -- what was flipped twice is as it was
 xor_back : (a b : ℕ) → bit_xor a (bit_xor a b) ≡ b
@@ -83,14 +70,10 @@ xor_again a b = xor_assoc a b b ∙ ap (bit_xor a) (xor_self b) ∙ xor_zero_r a
 
 -- powers of two are in the order of their exponents
 pow_one : (p q : ℕ) → 2 ^ p ≡ 2 ^ q → p ≡ q
-pow_one p q e = ⊎_elim (λ s. s) (⊎_elim (λ l. omega (arith, pow_below p q l)) (λ l. omega (arith, pow_below q p l))) (cases_order p q)
+pow_one p q e = grind (arith, pow_below)
 
 below_pow : (p q : ℕ) → 2 ^ p < 2 ^ q → p < q
-below_pow p q l =
-    ⊎_elim
-    (λ e. absurd (let z : ⊥ = omega (arith, ap (λ x. 2 ^ x) e) in z))
-    (⊎_elim (λ m. m) (λ m. absurd (let z : ⊥ = omega (arith, pow_below q p m) in z)))
-    (cases_order p q)
+below_pow p q l = ⊎_elim (λ m. m) (λ m. omega (arith, pow_mono m)) (cases_lt p q)
 
 folded_below : (d by x : ℕ) → x < 2 ^ d → folded by x < 2 ^ d
 folded_below d by x h = xor_lt d x (x / 2 ^ by) h (omega (arith, shr_le x by))
@@ -100,14 +83,14 @@ module _ (d : ℕ) (small : d ≤ 7) where
   Corner a = a < 2 ^ d
 
   few : 2 ^ d ≤ 128
-  few = ⊎_elim (λ l. omega (arith, pow_below d 7 l)) (λ l. let e : d ≡ 7 = omega arith in omega (arith, ap (λ x. 2 ^ x) e)) (cases_lt d 7)
+  few = pow_mono small
 
   -- what a port leads to
   flips : (a b p : ℕ) → flip d a p ≡ Some b → (p < d) × (bit_xor a (2 ^ p) ≡ b)
-  flips a b p e = let h = allowed_is (nat_lt p d) e in (ltb-true p d h.0, h.1)
+  flips a b p e = grind (arith, nat_tests)
 
   flip_is : (a p : ℕ) → p < d → flip d a p ≡ Some (bit_xor a (2 ^ p))
-  flip_is a p h = cond-true (nat_lt p d) (Some (bit_xor a (2 ^ p))) None (lt-ltb p d h)
+  flip_is a p h = grind (arith, nat_tests)
 
   reaches : (a b p : ℕ) → Corner a → flip d a p ≡ Some b → (p < 8) × Corner b
   reaches a b p i e =
@@ -134,7 +117,7 @@ module _ (d : ℕ) (small : d ≤ 7) where
 
   chain : (k : ℕ) → k + 1 < 2 ^ d → (p : ℕ) × (flip d (gray k) p ≡ Some (gray (k + 1)))
   chain k h =
-      let next = gray_next k (omega (arith, few)) in
+      let next = (coded k (omega (arith, few))).2 in
       (changes k, joined (gray k) (gray (k + 1)) (changes k) (folded_below d 1 k (omega arith)) (folded_below d 1 (k + 1) h) (ap (bit_xor (gray k)) (sym next) ∙ xor_back (gray k) (2 ^ changes k)))
 
   pub cube_placing : Placing Corner (2 ^ d) gray ungray (flip d)
@@ -143,8 +126,8 @@ module _ (d : ℕ) (small : d ≤ 7) where
     bounded = few;
     placed = λ k h. folded_below d 1 k h;
     below = λ a h. folded_below d 4 (folded 2 (folded 1 a)) (folded_below d 2 (folded 1 a) (folded_below d 1 a h));
-    label_place = λ k h. ungray_gray k (omega (arith, few));
-    place_label = λ a h. gray_ungray a (omega (arith, few));
+    label_place = λ k h. (coded k (omega (arith, few))).0;
+    place_label = λ a h. (coded a (omega (arith, few))).1;
     reaches = reaches;
     no_self = no_self;
     once = once;
@@ -177,9 +160,7 @@ module _ (d : ℕ) (small : d ≤ 7) where
         let f = flips (gray u) (gray v) p s.2 in
         let bit : bits ≡ 2 ^ p = ap (bit_xor (gray u)) (sym f.1) ∙ xor_back (gray u) (2 ^ p) in
         let one = power_one p (omega arith) in
-        cond-true (exist (2 ^ d) u v) (only_bit bits) None (exist_true (2 ^ d) u v s.0 s.1)
-        ∙ cond-true (ones bits == 1) (Some (count_trailing_zeros 8 bits)) None (eq-eqb (ones bits) 1 (ap ones bit ∙ one.0))
-        ∙ ap Some (ap (count_trailing_zeros 8) bit ∙ one.1)),
+        grind (arith, nat_tests)),
   )
     where
       bits : ℕ

@@ -1,12 +1,12 @@
 -- A fabric by places is lawful, if the labels and the places are one to one, and the steps between places are as in a fabric.
-use Rattle.std.specs.Prelude.{◌≡◌, ℕ, ◌+◌, ◌<◌, ◌≤◌, Bool, true, false, cond, Some, None, Option, ◌≢◌, nat_lt}
+use Rattle.std.specs.Prelude.{◌≡◌, ℕ, ◌+◌, ◌<◌, ◌≤◌, cond, Some, None, Option, ◌≢◌, nat_lt}
 use Rattle.std.specs.Option.{option_map}
-use Rattle.std.proofs.Math.Path.{refl, ap}
+use Rattle.std.proofs.Math.Path.{ap}
 use Rattle.std.proofs.Common.{sym, ◌∙◌, arith}
 use Rattle.std.proofs.lemmas.Bool.{ltb-true, lt-ltb}
 use Rattle.fabric.specs.Fabrics.{Near, Neighbours, Lawful}
 use Rattle.fabric.specs.Steps.{via, BySteps}
-use Rattle.fabric.specs.Optional.{nothing, same}
+use Rattle.fabric.specs.Optional.{cond_is, each_is}
 
 module _ {P : Type 0} (In : P → Type 0) (nodes : ℕ) (place : ℕ → P) (label : P → ℕ) (step : P → ℕ → Option P) where
   pub record Placing : Type 0 where
@@ -32,17 +32,12 @@ module _ {P : Type 0} (In : P → Type 0) (nodes : ℕ) (place : ℕ → P) (lab
     steps : step (place u) p ≡ Some at
     is : label at ≡ v
 
-  labelled : (u p v : ℕ) → u < nodes → (o : Option P) → step (place u) p ≡ o → option_map label o ≡ Some v → Step u p v
-  labelled u p v h None e f = absurd (nothing f)
-  labelled u p v h (Some a) e f = record { from = h; at = a; steps = e; is = same f }
-
   taken : (u p v : ℕ) → near u p ≡ Some v → Step u p v
   unfolding near
-  taken u p v e = go (nat_lt u nodes) refl e
-    where
-      go : (t : Bool) → nat_lt u nodes ≡ t → cond t (option_map label (step (place u) p)) None ≡ Some v → Step u p v
-      go true t f = labelled u p v (ltb-true u nodes t) (step (place u) p) refl f
-      go false t f = absurd (nothing f)
+  taken u p v e =
+      let h = cond_is (nat_lt u nodes) e in
+      let s = each_is label (step (place u) p) h.1 in
+      record { from = ltb-true u nodes h.0; at = s.0; steps = s.1; is = s.2 }
 
   take : (u p v : ℕ) → Step u p v → near u p ≡ Some v
   unfolding near

@@ -133,8 +133,12 @@ fn failing(bytes: &[u8], question: Question) -> Option<usize>
     requires { records_of bytes.now ≤ 128 }
     ensures { result ≡ first_fail (passes_at question bytes.now) (8 * records_of bytes.now) }
 {
-    (0..8 * records(bytes))
-        .find(|place| !passes(bytes, question, (place / 8) as u8, (place % 8) as u8))
+    (0..8 * records(bytes)).find(|place| !passes(
+        bytes,
+        question,
+        (place / 8) as u8,
+        (place % 8) as u8,
+    ))
 }
 
 // The first fault by a question: the one scan for all questions.

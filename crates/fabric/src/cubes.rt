@@ -37,10 +37,9 @@ fn ungray(code: u8) -> u8
 fn only_bit(bits: u8) -> Option<u8>
     ensures { result ≡ only_bit bits }
 {
-    if bits.count_ones() == 1 {
-        Some(bits.trailing_zeros() as u8)
-    } else {
-        None
+    match bits.count_ones() {
+        1 => u8::try_from(bits.trailing_zeros()).ok(),
+        _ => None,
     }
 }
 
@@ -49,23 +48,17 @@ impl Cube {
     pub fn new(dimension: u32) -> Result<Cube, Refusal>
         ensures { told (λ c. c.dimension) result ≡ dimension_of dimension }
     {
-        if dimension > 7 {
-            return Err(Refusal::CubeSize);
+        match u8::try_from(dimension) {
+            Ok(dimension @ 0..=7) => Ok(Cube { dimension }),
+            _ => Err(Refusal::CubeSize),
         }
-        Ok(Cube {
-            dimension: dimension as u8,
-        })
     }
 
     // The Gray code of a label that exists.
     fn code(&self, label: u8) -> Option<u8>
         ensures { result ≡ allowed (nat_lt label (2 ^ self.now.dimension)) (gray label) }
     {
-        if label < self.size() {
-            Some(gray(label))
-        } else {
-            None
-        }
+        (label < self.size()).then(|| gray(label))
     }
 
     /// The port that leads from a label to another, or none where they are no neighbours.
@@ -80,22 +73,15 @@ impl Cube {
     fn across(&self, code: u8, port: u8) -> Option<u8>
         ensures { result ≡ flip self.now.dimension code port }
     {
-        if port < self.dimension {
-            Some(code ^ (1 << port))
-        } else {
-            None
-        }
+        (port < self.dimension).then(|| code ^ (1 << port))
     }
 
     // The label of a code, where a label of the cube has it.
     fn label_with(&self, code: u32) -> Option<u8>
         ensures { result ≡ allowed (nat_lt code (2 ^ self.now.dimension)) (ungray code) }
     {
-        if code < self.size() as u32 {
-            Some(ungray(code as u8))
-        } else {
-            None
-        }
+        let code = u8::try_from(code).ok()?;
+        (code < self.size()).then(|| ungray(code))
     }
 }
 
@@ -112,7 +98,7 @@ impl Fabric for Cube {
         ensures is { result ≡ cube_near self.now.dimension label port }
         ensures law { BySteps (2 ^ self.now.dimension) gray (flip self.now.dimension) label port result }
     {
-        Some(ungray(self.across(self.code(label)?, port)?))
+        self.across(self.code(label)?, port).map(ungray)
     }
 }
 
@@ -124,7 +110,7 @@ impl Addressed for Cube {
     ghost fit = { λ c. fits (cube_placing c.dimension c.small) (λ a. a) (small_corner c.dimension c.small) };
 
     fn address(&self, label: u8) -> Option<u32> {
-        Some(self.code(label)? as u32)
+        self.code(label).map(u32::from)
     }
 
     fn label_of(&self, address: u32) -> Option<u8> {

@@ -20,19 +20,16 @@ pub struct Mesh {
 
 impl Mesh {
     /// A mesh of so many rows and columns, or the refusal where there is none.
+    #[tactic(auto, using(crate::specs::Snakes::oversized))]
     pub fn new(rows: u32, columns: u32) -> Result<Mesh, Refusal>
         ensures { told (λ m. (m.rows, m.columns)) result ≡ shape_of rows columns }
     {
-        if rows == 0 || columns == 0 || rows > 128 || columns > 128 {
-            return Err(Refusal::MeshSize);
+        let rows = u8::try_from(rows).map_err(|_| Refusal::MeshSize)?;
+        let columns = u8::try_from(columns).map_err(|_| Refusal::MeshSize)?;
+        match rows.checked_mul(columns) {
+            Some(1..=128) => Ok(Mesh { rows, columns }),
+            _ => Err(Refusal::MeshSize),
         }
-        if rows * columns > 128 {
-            return Err(Refusal::MeshSize);
-        }
-        Ok(Mesh {
-            rows: rows as u8,
-            columns: columns as u8,
-        })
     }
 
     /// The number of rows and the number of columns.
@@ -47,11 +44,7 @@ impl Mesh {
         ensures { result ≡ label_of self.now.rows self.now.columns place }
     {
         let (x, y) = place;
-        if x < self.columns && y < self.rows {
-            Some(y * self.columns + self.turned(y, x))
-        } else {
-            None
-        }
+        (x < self.columns && y < self.rows).then(|| y * self.columns + self.turned(y, x))
     }
 
     /// The place of a label, or none where the label does not exist.
@@ -59,11 +52,7 @@ impl Mesh {
         ensures is { result ≡ place_of self.now.rows self.now.columns label }
         ensures law { Placed self.now.rows self.now.columns label result }
     {
-        if label < self.size() {
-            Some(self.place_at(label))
-        } else {
-            None
-        }
+        (label < self.size()).then(|| self.place_at(label))
     }
 
     // The place of a label that exists.
@@ -121,17 +110,16 @@ fn address_at(place: (u8, u8)) -> u32
     ensures { result ≡ address_at place }
 {
     let (x, y) = place;
-    256 * y as u32 + x as u32
+    u32::from_be_bytes([0, 0, y, x])
 }
 
 // The place that has an address on some mesh.
 fn place_with(address: u32) -> Option<(u8, u8)>
     ensures { result ≡ place_with address }
 {
-    if address < 65536 {
-        Some(((address % 256) as u8, (address / 256) as u8))
-    } else {
-        None
+    match address.to_be_bytes() {
+        [0, 0, y, x] => Some((x, y)),
+        _ => None,
     }
 }
 
@@ -143,7 +131,7 @@ impl Addressed for Mesh {
     ghost fit = { λ m. Coding.fits (mesh_placing m.rows m.columns m.fits) address_at (small_address m.rows m.columns m.fits) };
 
     fn address(&self, label: u8) -> Option<u32> {
-        Some(address_at(self.place_of(label)?))
+        self.place_of(label).map(address_at)
     }
 
     fn label_of(&self, address: u32) -> Option<u8> {

@@ -1,17 +1,8 @@
-use Rattle.std.proofs.Common.{Some, ap, ◌∙◌}
+use Rattle.std.proofs.Common.{rules}
 use Rattle.fabric.specs.Snake.{address_at}
-use Rattle.fabric.specs.Coding.{long, address_at_lem, address_none}
+use Rattle.fabric.specs.Coding.{address_as}
 use Rattle.fabric.specs.Snakes.{mesh_placing}
 use Rattle.fabric.proofs.meshes.MeshAddressed.address.Goals as goal
 
-pub returns-in_err-place_of : goal.returns-in_err-place_of
-returns-in_err-place_of c =
-    let m = c.args.self.now in
-    let p = mesh_placing m.rows m.columns m.fits in
-    record { is = c.from_residual.ensures ∙ address_none p address_at c.args.label c.in_err-place_of.ensures.is; long = long p address_at }
-
 pub returns : goal.returns
-returns c =
-    let m = c.args.self.now in
-    let p = mesh_placing m.rows m.columns m.fits in
-    record { is = ap Some c.address_at.ensures ∙ address_at_lem p address_at c.args.label _ c.in_ok-place_of.ensures.is; long = long p address_at }
+returns c = let m = c.args.self.now in address_as (mesh_placing m.rows m.columns m.fits) address_at c.args.label _ (search rules)
