@@ -1,7 +1,7 @@
 -- A fabric without some of its links is lawful, since the chain stays; and what closing a link does.
 use Rattle.std.specs.Prelude.{◌≡◌, ℕ, ◌+◌, ◌<◌, ◌≤◌, Bool, true, not, ◌&&◌, ◌⊎◌, ◌↔◌, List, [], ◌∷◌, ◌++◌, length, Some, None, Decides, Option, ◌==◌, nat_lt, refl}
 use Rattle.std.proofs.Common.{sym, ap, ap₂, subst, ◌∙◌, inl, inr, ⊎_elim, arith}
-use Rattle.std.proofs.lemmas.Bool.{false≢true, ltb-true, leb-true, le-leb, and_from, and_parts, cond-true}
+use Rattle.std.proofs.lemmas.Bool.{false≢true, ltb-true, leb-true, le-leb, and_parts, cond-true}
 use Rattle.std.proofs.lemmas.Bool.Decides.{Decides-eqb, Decides-and, Decides-or, Decides-not, Decides-like, Decides-ltb}
 use Rattle.fabric.specs.Fabrics.{Near, Meaning, Neighbours, Lawful}
 use Rattle.fabric.specs.Hop.{distance, exist}
@@ -12,11 +12,6 @@ use Rattle.fabric.specs.Optional.{nothing, same, allowed_is, with_law}
 use Rattle.fabric.specs.Searching.{below_decides}
 
 -- ---- a list of links
-
--- one link more that is two or more apart
-pub apart_more : (ls : List Link) (l : Link) → all_apart ls ≡ true → apart l ≡ true → all_apart (ls ++ l ∷ []) ≡ true
-apart_more [] l h e = and_from (apart l) true e refl
-apart_more (k ∷ ls) l h e = let p = and_parts (apart k) (all_apart ls) h in and_from (apart k) (all_apart (ls ++ l ∷ [])) p.0 (apart_more ls l p.1 e)
 
 -- what the tests say in plain terms
 joins_decides : (l : Link) (u v : ℕ) → Decides (joins l u v) (Joins l u v)
@@ -95,14 +90,6 @@ thinned_lawful ls m spared law = record {
       (b.0, (thinned_law ls m.near v b.0 u).1 (b.1, λ h. s.1 (closed_swap ls v u h)));
   chain = λ u h. let c = law.chain u h in (c.0, (thinned_law ls m.near u c.0 (u + 1)).1 (c.1, closed_chain ls u spared));
 }
-
--- with all links open the neighbours are those below
-pub all_open : (near : Near) (u p : ℕ) → thinned [] near u p ≡ near u p
-all_open near u p = go (near u p)
-  where
-    go : (o : Option ℕ) → unless_closed [] u o ≡ o
-    go None = refl
-    go (Some v) = refl
 
 -- ---- neighbours that a port leads to
 
