@@ -1,5 +1,5 @@
 -- Values that may be missing, and values that keep a law.
-use Rattle.std.specs.Prelude.{◌≡◌, ℕ, Bool, true, false, cond, not, ◌||◌, MatchOption, Some, None, Option, ◌≢◌, refl}
+use Rattle.std.specs.Prelude.{◌≡◌, ℕ, Bool, true, false, cond, Some, None, Option, ◌≢◌, refl}
 use Rattle.std.specs.Option.{option_map}
 use Rattle.std.proofs.Common.{sym, subst, arith}
 use Rattle.fabric.specs.Options.{allowed}
@@ -33,8 +33,3 @@ each_none f (Some x) e = absurd (nothing (sym e))
 -- what equals a value that keeps a law keeps it too: the two promises of a call together
 pub with_law : {A : Type 0} (Law : A → Type 0) (x : A) → Law x → (r : A) → r ≡ x → record { is : r ≡ x; law : Law r }
 with_law Law x h r e = record { is = e; law = subst Law (sym e) h }
-
--- what holds of a number or is not asked of it, as the test of the number where it counts
-pub asked : (x : ℕ) (aside r : Bool) (f : ℕ → Bool) (o : Option ℕ) → o ≡ allowed (not aside) x → MatchOption o (r ≡ true) (λ w. r ≡ f w) → r ≡ (aside || f x)
-asked x true r f o e h = subst (λ u. MatchOption u (r ≡ true) (λ w. r ≡ f w)) e h
-asked x false r f o e h = subst (λ u. MatchOption u (r ≡ true) (λ w. r ≡ f w)) e h
