@@ -1,4 +1,5 @@
 //! Cubes: dimensions, addresses, ports and hops.
+use crate::answers::refused;
 use fabric::{Addressed, Cube, Fabric, hop, length};
 use std::test::Fail;
 
@@ -8,11 +9,7 @@ fn dimensions_up_to_seven_are_built(rt: HostRuntime) -> Result<(), Fail> {
         assert_eq!(rt; Cube::new(dimension)?.size(), nodes);
     }
     for dimension in [8, 9, 255, 256, 263, u32::MAX] {
-        let number = match Cube::new(dimension) {
-            Ok(_) => 0,
-            Err(refusal) => refusal.number(),
-        };
-        assert_eq!(rt; number, 2);
+        assert_eq!(rt; refused(Cube::new(dimension)), Some(2));
     }
     Ok(())
 }
@@ -40,18 +37,14 @@ fn addresses_are_the_gray_code(rt: HostRuntime) -> Result<(), Fail> {
     Ok(())
 }
 
-// The address of a label with a bit flipped.
-fn across(cube: &Cube, label: u8, bit: u32) -> Option<u32> {
-    Some(cube.address(label)? ^ bit)
-}
-
 #[test]
 fn ports_flip_their_bit(rt: HostRuntime) -> Result<(), Fail> {
     let cube = Cube::new(7)?;
     for label in 0..128u8 {
         for (port, bit) in (0..7u8).zip([1, 2, 4, 8, 16, 32, 64]) {
             let neighbour = cube.neighbour(label, port).ok_or("no neighbour")?;
-            assert_eq!(rt; cube.address(neighbour), across(&cube, label, bit));
+            let across = cube.address(label).map(|address| address ^ bit);
+            assert_eq!(rt; cube.address(neighbour), across);
             assert_eq!(rt; cube.port_to(label, neighbour), Some(port));
         }
     }

@@ -25,13 +25,9 @@ fn hops_go_as_far_as_they_may(rt: HostRuntime) -> Result<(), Fail> {
 }
 
 fn check_way(rt: &impl Abort, mesh: &Mesh, from: u8, to: u8, labels: &[u8]) -> Result<(), Fail> {
-    match way(mesh, from, to) {
-        Some(path) => {
-            assert_eq!(rt; path.labels(), labels);
-            Ok(())
-        }
-        None => Err(Fail::new("no way")),
-    }
+    let path = way(mesh, from, to).ok_or("no way")?;
+    assert_eq!(rt; path.labels(), labels);
+    Ok(())
 }
 
 #[test]

@@ -1,34 +1,27 @@
 //! Layouts: closed links, what is refused, and the fabric that is left.
+use crate::answers::refused;
 use fabric::{Addressed, Cube, Fabric, Layout, Mesh, hop, length};
 use std::test::Fail;
-
-// The number of the refusal to close a link, or 0.
-fn answer<F: Fabric>(layout: &mut Layout<F>, link: (u8, u8)) -> u8 {
-    match layout.close(link) {
-        Ok(()) => 0,
-        Err(refusal) => refusal.number(),
-    }
-}
 
 #[test]
 fn the_first_no_gives_its_number(rt: HostRuntime) -> Result<(), Fail> {
     let mut layout = Layout::new(Mesh::new(4, 4)?);
     let cases = [
-        ((16, 0), 10),
-        ((0, 16), 10),
-        ((255, 255), 10),
-        ((6, 10), 11),
-        ((6, 6), 11),
-        ((6, 7), 12),
-        ((7, 6), 12),
-        ((6, 9), 0),
-        ((6, 9), 13),
-        ((9, 6), 13),
-        ((10, 5), 0),
-        ((5, 10), 13),
+        ((16, 0), Some(10)),
+        ((0, 16), Some(10)),
+        ((255, 255), Some(10)),
+        ((6, 10), Some(11)),
+        ((6, 6), Some(11)),
+        ((6, 7), Some(12)),
+        ((7, 6), Some(12)),
+        ((6, 9), None),
+        ((6, 9), Some(13)),
+        ((9, 6), Some(13)),
+        ((10, 5), None),
+        ((5, 10), Some(13)),
     ];
     for (link, number) in cases {
-        assert_eq!(rt; answer(&mut layout, link), number);
+        assert_eq!(rt; refused(layout.close(link)), number);
     }
     assert_eq!(rt; layout.closed(), [(6, 9), (10, 5)].as_slice());
     Ok(())
@@ -41,11 +34,9 @@ fn a_closed_link_is_missing_both_ways(rt: HostRuntime) -> Result<(), Fail> {
     layout.close((9, 6))?;
     for label in 0..20u8 {
         for port in 0..9u8 {
-            let closed = (label == 6 && port == 2) || (label == 9 && port == 3);
-            let expected = if closed {
-                None
-            } else {
-                mesh.neighbour(label, port)
+            let expected = match (label, port) {
+                (6, 2) | (9, 3) => None,
+                _ => mesh.neighbour(label, port),
             };
             assert_eq!(rt; layout.neighbour(label, port), expected);
         }
@@ -73,28 +64,22 @@ fn ways_go_round_a_closed_link(rt: HostRuntime) -> Result<(), Fail> {
 
 // Closes the links of a label, and answers whether one was refused for want of room.
 fn close_all<F: Fabric>(layout: &mut Layout<F>, label: u8) -> bool {
-    let mut full = false;
-    for port in 0..8u8 {
-        if let Some(neighbour) = layout.neighbour(label, port) {
-            full = full || answer(layout, (label, neighbour)) == 14;
-        }
-    }
-    full
+    (0..8u8).any(|port| {
+        layout.neighbour(label, port).is_some_and(|neighbour| refused(layout.close((
+            label, neighbour,
+        ))) == Some(14))
+    })
 }
 
 #[test]
 fn sixty_four_links_can_be_closed(rt: HostRuntime) -> Result<(), Fail> {
     let mut layout = Layout::new(Mesh::new(16, 8)?);
-    let mut full = false;
-    for label in 0..128u8 {
-        full = full || close_all(&mut layout, label);
-    }
-    assert!(rt; full);
+    assert!(rt; (0..128u8).any(|label| close_all(&mut layout, label)));
     assert_eq!(rt; layout.closed().len(), 64);
     // row 15 is out of reach of the first 64, row 1 is not
-    assert_eq!(rt; answer(&mut layout, (112, 127)), 14);
-    assert_eq!(rt; answer(&mut layout, (0, 15)), 13);
-    assert_eq!(rt; answer(&mut layout, (112, 113)), 12);
+    assert_eq!(rt; refused(layout.close((112, 127))), Some(14));
+    assert_eq!(rt; refused(layout.close((0, 15))), Some(13));
+    assert_eq!(rt; refused(layout.close((112, 113))), Some(12));
     assert_eq!(rt; layout.closed().len(), 64);
     Ok(())
 }
@@ -102,8 +87,8 @@ fn sixty_four_links_can_be_closed(rt: HostRuntime) -> Result<(), Fail> {
 #[test]
 fn a_cube_without_a_link(rt: HostRuntime) -> Result<(), Fail> {
     let mut layout = Layout::new(Cube::new(3)?);
-    assert_eq!(rt; answer(&mut layout, (0, 7)), 0);
-    assert_eq!(rt; answer(&mut layout, (0, 2)), 11);
+    assert_eq!(rt; refused(layout.close((0, 7))), None);
+    assert_eq!(rt; refused(layout.close((0, 2))), Some(11));
     assert_eq!(rt; layout.neighbour(0, 2), None);
     assert_eq!(rt; layout.neighbour(7, 2), None);
     assert_eq!(rt; hop(&layout, 0, 7), Some(3));

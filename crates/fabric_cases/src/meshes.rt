@@ -1,4 +1,5 @@
 //! Meshes: sizes, labels, ports and addresses.
+use crate::answers::refused;
 use fabric::{Addressed, Fabric, Mesh};
 use std::process::Abort;
 use std::test::Fail;
@@ -6,7 +7,7 @@ use std::test::Fail;
 const ROWS: [[u8; 4]; 4] = [[0, 1, 2, 3], [7, 6, 5, 4], [8, 9, 10, 11], [15, 14, 13, 12]];
 
 fn grid_is_known(rt: &impl Abort, rows: u8) -> Result<(), Fail> {
-    let mesh = Mesh::new(rows as u32, 4)?;
+    let mesh = Mesh::new(u32::from(rows), 4)?;
     for (y, row) in (0..rows).zip(ROWS) {
         for (x, label) in (0..4u8).zip(row) {
             assert_eq!(rt; mesh.label_at((x, y)), Some(label));
@@ -26,9 +27,9 @@ fn labels_run_to_and_fro(rt: HostRuntime) -> Result<(), Fail> {
 fn largest_shapes_are_built(rt: HostRuntime) -> Result<(), Fail> {
     for (rows, columns) in [(16, 8), (8, 16), (128, 1), (1, 128), (1, 1), (11, 11)] {
         let mesh = Mesh::new(rows, columns)?;
-        assert_eq!(rt; mesh.size() as u32, rows.saturating_mul(columns));
+        assert_eq!(rt; u32::from(mesh.size()), rows.saturating_mul(columns));
         let (m, n) = mesh.shape();
-        assert_eq!(rt; (m as u32, n as u32), (rows, columns));
+        assert_eq!(rt; (u32::from(m), u32::from(n)), (rows, columns));
     }
     Ok(())
 }
@@ -49,11 +50,7 @@ fn other_shapes_are_refused(rt: HostRuntime) {
         (u32::MAX, u32::MAX),
     ];
     for (rows, columns) in shapes {
-        let number = match Mesh::new(rows, columns) {
-            Ok(_) => 0,
-            Err(refusal) => refusal.number(),
-        };
-        assert_eq!(rt; number, 1);
+        assert_eq!(rt; refused(Mesh::new(rows, columns)), Some(1));
     }
 }
 

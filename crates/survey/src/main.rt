@@ -16,31 +16,25 @@ fn chart(rt: &HostRuntime, source: &Source) -> Result<Vec<u8>, Complaint> {
     let Source::Chart { file } = source else {
         return Ok(Vec::new(rt.alloc()));
     };
-    match fs::read(rt, file.as_str()) {
-        Ok(bytes) => Ok(bytes),
-        Err(error) => {
-            let file = file.clone()?;
-            Err(Complaint::Input { file, error })
-        }
-    }
+    fs::read(rt, file).try_map_err(|error| {
+        Ok(Complaint::Input {
+            file: file.clone()?,
+            error,
+        })
+    })
 }
 
-fn save(rt: &HostRuntime, file: &File) -> Result<(), Complaint> {
-    match fs::write(rt, file.name.as_str(), file.bytes.as_slice()) {
-        Ok(()) => Ok(()),
-        Err(error) => {
-            let file = file.name.clone()?;
-            Err(Complaint::Output { file, error })
-        }
-    }
+fn save(rt: &HostRuntime, file: File) -> Result<(), Complaint> {
+    let File { name, bytes } = file;
+    fs::write(rt, &name, &bytes).map_err(|error| Complaint::Output { file: name, error })
 }
 
 fn survey(rt: &HostRuntime) -> Result<(), Complaint> {
     let heap = rt.alloc();
-    let words: Vec<String> = env::args(rt)?.skip(1).collect(heap)?;
-    let request = read(heap, &words)?;
-    let report = survey_of(heap, &request, &chart(rt, &request.source)?)?;
-    for file in report.files.iter() {
+    let request = read(heap, env::args(rt)?.skip(1).collect(heap)?)?;
+    let chart = chart(rt, &request.source)?;
+    let report = survey_of(heap, request, &chart)?;
+    for file in report.files {
         save(rt, file)?;
     }
     rt.print(report.text)?;
@@ -67,11 +61,11 @@ mod tests {
 
     // The survey for a line of words and the bytes of a chart.
     fn surveyed(heap: Global, line: &str, chart: &[u8]) -> Result<Report, Complaint> {
-        let mut words = Vec::new(heap);
-        for word in line.split_whitespace() {
-            words.push(String::from_str(heap, word)?)?;
-        }
-        survey_of(heap, &read(heap, &words)?, chart)
+        let words = line
+            .split_whitespace()
+            .map(|word| String::from_str(heap, word))
+            .try_collect(heap)?;
+        survey_of(heap, read(heap, words)?, chart)
     }
 
     // What is said for a line of words and the bytes of a chart.
@@ -193,7 +187,7 @@ mod tests {
 
     // The files of a survey, written and read back.
     fn keep(rt: &HostRuntime, report: Report) -> Result<Vec<u8>, Complaint> {
-        for file in report.files.iter() {
+        for file in report.files {
             save(rt, file)?;
         }
         let file = String::from_str(rt.alloc(), "made.cht")?;
@@ -220,12 +214,12 @@ mod tests {
         let file = String::from_str(heap, name)?;
         let name = file.clone()?;
         let bytes = Vec::new(heap);
-        let Err(unread) = chart(rt, &Source::Chart { file }) else {
-            return Err(Fail::new("the file was read"));
-        };
-        let Err(unwritten) = save(rt, &File { name, bytes }) else {
-            return Err(Fail::new("the file was written"));
-        };
+        let unread = chart(rt, &Source::Chart { file })
+            .err()
+            .ok_or("the file was read")?;
+        let unwritten = save(rt, File { name, bytes })
+            .err()
+            .ok_or("the file was written")?;
         Ok((unread.to_string(heap)?, unwritten.to_string(heap)?))
     }
 

@@ -1,5 +1,5 @@
-use Rattle.std.proofs.Common.{◌-◌}
+use Rattle.std.specs.Vec.Iter.{into_iter_len}
 use Rattle.survey.proofs.requests.read.Given as goal
 
-abbrev pub decreases-loop : goal.decreases-loop
-decreases-loop l = l.end - l.counter
+abbrev pub decreases-loop-kind : goal.decreases-loop-kind
+decreases-loop-kind l = into_iter_len l.words
