@@ -1,5 +1,5 @@
 //! Charts: what is refused and where, what is opened, and round trips.
-use crate::answers::refused;
+use crate::answers::number;
 use fabric::{Addressed, Chart, Cube, Fabric, Layout, Mesh, write_chart};
 use std::process::Abort;
 use std::test::Fail;
@@ -23,15 +23,13 @@ fn triangle() -> [u8; 36] {
     bytes
 }
 
-// The refusal's number, the record and the port, or none where the chart passes.
-fn fault_of(bytes: &[u8]) -> Option<(u8, u8, u8)> {
-    Chart::check(bytes)
-        .err()
-        .map(|fault| (fault.refusal.number(), fault.record, fault.port))
+// The refusal's number, the record and the port; no number where the chart passes.
+fn fault_of(bytes: &[u8]) -> (u8, u8, u8) {
+    Chart::check(bytes).err().map_or(
+        (0, 0, 0),
+        |fault| (fault.refusal.number(), fault.record, fault.port),
+    )
 }
-
-// The fault of bytes that are not 1 to 128 whole records.
-const LENGTH: Option<(u8, u8, u8)> = Some((3, 0, 0));
 
 fn front(bytes: &[u8], n: usize) -> &[u8] {
     bytes.get(..n).unwrap_or(bytes)
@@ -41,20 +39,20 @@ fn front(bytes: &[u8], n: usize) -> &[u8] {
 #[test]
 fn each_fault_is_told_with_its_place(rt: HostRuntime) {
     let cases = [
-        (12 + 4 + 3, 3, Some((4, 1, 3))),
-        (24 + 4 + 7, 254, Some((4, 2, 7))),
-        (24 + 4 + 2, 2, Some((5, 2, 2))),
-        (4 + 7, 0, Some((5, 0, 7))),
-        (12 + 4 + 5, 2, Some((6, 1, 5))),
-        (4 + 7, 1, Some((6, 0, 7))),
-        (12 + 4 + 2, 255, Some((7, 2, 0))),
-        (12 + 4 + 1, 255, Some((7, 0, 0))),
-        (24 + 4 + 1, 255, Some((7, 0, 1))),
-        (12, 0, Some((8, 1, 0))),
-        (24 + 3, 5, Some((8, 2, 0))),
-        (0, 9, None),
+        (12 + 4 + 3, 3, (4, 1, 3)),
+        (24 + 4 + 7, 254, (4, 2, 7)),
+        (24 + 4 + 2, 2, (5, 2, 2)),
+        (4 + 7, 0, (5, 0, 7)),
+        (12 + 4 + 5, 2, (6, 1, 5)),
+        (4 + 7, 1, (6, 0, 7)),
+        (12 + 4 + 2, 255, (7, 2, 0)),
+        (12 + 4 + 1, 255, (7, 0, 0)),
+        (24 + 4 + 1, 255, (7, 0, 1)),
+        (12, 0, (8, 1, 0)),
+        (24 + 3, 5, (8, 2, 0)),
+        (0, 9, (0, 0, 0)),
     ];
-    assert_eq!(rt; fault_of(&triangle()), None);
+    assert_eq!(rt; fault_of(&triangle()), (0, 0, 0));
     for (at, byte, fault) in cases {
         let mut bytes = triangle();
         put(&mut bytes, at, byte);
@@ -83,8 +81,8 @@ fn an_earlier_question_goes_first(rt: HostRuntime) {
         for (at, byte) in edits {
             put(&mut bytes, at, byte);
         }
-        assert_eq!(rt; fault_of(&bytes), Some(fault));
-        assert_eq!(rt; fault_of(front(&bytes, 35)), LENGTH);
+        assert_eq!(rt; fault_of(&bytes), fault);
+        assert_eq!(rt; fault_of(front(&bytes, 35)), (3, 0, 0));
     }
 }
 
@@ -94,11 +92,11 @@ fn one_to_128_whole_records_are_a_chart(rt: HostRuntime) -> Result<(), Fail> {
     assert_eq!(rt; write_chart(&Mesh::new(1, 1)?, &mut one)?, 12);
     let mut most = [0; 1548];
     assert_eq!(rt; write_chart(&Mesh::new(1, 128)?, &mut most)?, 1536);
-    for (length, fault) in [(0, LENGTH), (11, LENGTH), (12, None), (13, LENGTH)] {
-        assert_eq!(rt; fault_of(front(&one, length)), fault);
+    for (length, number) in [(0, 3), (11, 3), (12, 0), (13, 3)] {
+        assert_eq!(rt; fault_of(front(&one, length)), (number, 0, 0));
     }
-    for (length, fault, nodes) in [(1536, None, 128), (1537, LENGTH, 1), (1548, LENGTH, 1)] {
-        assert_eq!(rt; fault_of(front(&most, length)), fault);
+    for (length, number, nodes) in [(1536, 0, 128), (1537, 3, 1), (1548, 3, 1)] {
+        assert_eq!(rt; fault_of(front(&most, length)), (number, 0, 0));
         assert_eq!(rt; Chart::open(front(&most, length)).size(), nodes);
     }
     Ok(())
@@ -150,7 +148,7 @@ fn a_bad_chart_opens_as_one_node(rt: HostRuntime) {
 fn a_short_buffer_is_refused_and_kept(rt: HostRuntime) -> Result<(), Fail> {
     let chart = Chart::open(&triangle());
     let mut short = [7; 35];
-    assert_eq!(rt; refused(write_chart(&chart, &mut short)), Some(15));
+    assert_eq!(rt; number(write_chart(&chart, &mut short)), 15);
     assert_eq!(rt; &short[..], &[7; 35][..]);
     let mut exact = [7; 36];
     assert_eq!(rt; write_chart(&chart, &mut exact)?, 36);
@@ -176,7 +174,7 @@ fn same_fabric<F: Addressed>(rt: &impl Abort, chart: &Chart, fabric: &F) {
 fn comes_back<F: Addressed>(rt: &impl Abort, fabric: &F) -> Result<(), Fail> {
     let mut bytes = [0; 1536];
     let length = write_chart(fabric, &mut bytes)?;
-    assert_eq!(rt; fault_of(front(&bytes, length)), None);
+    assert_eq!(rt; fault_of(front(&bytes, length)), (0, 0, 0));
     let chart = Chart::open(front(&bytes, length));
     same_fabric(rt, &chart, fabric);
     let mut again = [0; 1536];

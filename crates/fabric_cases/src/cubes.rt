@@ -1,5 +1,5 @@
 //! Cubes: dimensions, addresses, ports and hops.
-use crate::answers::refused;
+use crate::answers::number;
 use fabric::{Addressed, Cube, Fabric, hop, length};
 use std::test::Fail;
 
@@ -9,7 +9,7 @@ fn dimensions_up_to_seven_are_built(rt: HostRuntime) -> Result<(), Fail> {
         assert_eq!(rt; Cube::new(dimension)?.size(), nodes);
     }
     for dimension in [8, 9, 255, 256, 263, u32::MAX] {
-        assert_eq!(rt; refused(Cube::new(dimension)), Some(2));
+        assert_eq!(rt; number(Cube::new(dimension)), 2);
     }
     Ok(())
 }

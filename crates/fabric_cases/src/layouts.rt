@@ -1,5 +1,5 @@
 //! Layouts: closed links, what is refused, and the fabric that is left.
-use crate::answers::refused;
+use crate::answers::number;
 use fabric::{Addressed, Cube, Fabric, Layout, Mesh, hop, length};
 use std::test::Fail;
 
@@ -7,21 +7,21 @@ use std::test::Fail;
 fn the_first_no_gives_its_number(rt: HostRuntime) -> Result<(), Fail> {
     let mut layout = Layout::new(Mesh::new(4, 4)?);
     let cases = [
-        ((16, 0), Some(10)),
-        ((0, 16), Some(10)),
-        ((255, 255), Some(10)),
-        ((6, 10), Some(11)),
-        ((6, 6), Some(11)),
-        ((6, 7), Some(12)),
-        ((7, 6), Some(12)),
-        ((6, 9), None),
-        ((6, 9), Some(13)),
-        ((9, 6), Some(13)),
-        ((10, 5), None),
-        ((5, 10), Some(13)),
+        ((16, 0), 10),
+        ((0, 16), 10),
+        ((255, 255), 10),
+        ((6, 10), 11),
+        ((6, 6), 11),
+        ((6, 7), 12),
+        ((7, 6), 12),
+        ((6, 9), 0),
+        ((6, 9), 13),
+        ((9, 6), 13),
+        ((10, 5), 0),
+        ((5, 10), 13),
     ];
-    for (link, number) in cases {
-        assert_eq!(rt; refused(layout.close(link)), number);
+    for (link, expected) in cases {
+        assert_eq!(rt; number(layout.close(link)), expected);
     }
     assert_eq!(rt; layout.closed(), [(6, 9), (10, 5)].as_slice());
     Ok(())
@@ -65,9 +65,9 @@ fn ways_go_round_a_closed_link(rt: HostRuntime) -> Result<(), Fail> {
 // Closes the links of a label, and answers whether one was refused for want of room.
 fn close_all<F: Fabric>(layout: &mut Layout<F>, label: u8) -> bool {
     (0..8u8).any(|port| {
-        layout.neighbour(label, port).is_some_and(|neighbour| refused(layout.close((
-            label, neighbour,
-        ))) == Some(14))
+        layout
+            .neighbour(label, port)
+            .is_some_and(|neighbour| number(layout.close((label, neighbour))) == 14)
     })
 }
 
@@ -77,9 +77,9 @@ fn sixty_four_links_can_be_closed(rt: HostRuntime) -> Result<(), Fail> {
     assert!(rt; (0..128u8).any(|label| close_all(&mut layout, label)));
     assert_eq!(rt; layout.closed().len(), 64);
     // row 15 is out of reach of the first 64, row 1 is not
-    assert_eq!(rt; refused(layout.close((112, 127))), Some(14));
-    assert_eq!(rt; refused(layout.close((0, 15))), Some(13));
-    assert_eq!(rt; refused(layout.close((112, 113))), Some(12));
+    assert_eq!(rt; number(layout.close((112, 127))), 14);
+    assert_eq!(rt; number(layout.close((0, 15))), 13);
+    assert_eq!(rt; number(layout.close((112, 113))), 12);
     assert_eq!(rt; layout.closed().len(), 64);
     Ok(())
 }
@@ -87,8 +87,8 @@ fn sixty_four_links_can_be_closed(rt: HostRuntime) -> Result<(), Fail> {
 #[test]
 fn a_cube_without_a_link(rt: HostRuntime) -> Result<(), Fail> {
     let mut layout = Layout::new(Cube::new(3)?);
-    assert_eq!(rt; refused(layout.close((0, 7))), None);
-    assert_eq!(rt; refused(layout.close((0, 2))), Some(11));
+    assert_eq!(rt; number(layout.close((0, 7))), 0);
+    assert_eq!(rt; number(layout.close((0, 2))), 11);
     assert_eq!(rt; layout.neighbour(0, 2), None);
     assert_eq!(rt; layout.neighbour(7, 2), None);
     assert_eq!(rt; hop(&layout, 0, 7), Some(3));

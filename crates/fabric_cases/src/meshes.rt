@@ -1,5 +1,5 @@
 //! Meshes: sizes, labels, ports and addresses.
-use crate::answers::refused;
+use crate::answers::number;
 use fabric::{Addressed, Fabric, Mesh};
 use std::process::Abort;
 use std::test::Fail;
@@ -50,7 +50,7 @@ fn other_shapes_are_refused(rt: HostRuntime) {
         (u32::MAX, u32::MAX),
     ];
     for (rows, columns) in shapes {
-        assert_eq!(rt; refused(Mesh::new(rows, columns)), Some(1));
+        assert_eq!(rt; number(Mesh::new(rows, columns)), 1);
     }
 }
 

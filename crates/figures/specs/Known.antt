@@ -1,28 +1,18 @@
 -- The figures of docs/RULES.md, by the rules and by their values.
-use Rattle.std.specs.Prelude.{ℕ, [], ◌∷◌, map, Some, Ok, Err, Result}
+use Rattle.std.specs.Prelude.{[], ◌∷◌, map, Some}
 use Rattle.std.specs.List.{slice_get}
-use Rattle.fabric.specs.Gray.{dimension_of, cube_addresses}
+use Rattle.fabric.specs.Gray.{cube_addresses}
 use Rattle.fabric.specs.Hop.{hop_of}
-use Rattle.fabric.specs.Links.{thinned}
-use Rattle.fabric.specs.Snake.{shape_of, label_of, mesh_near}
-use Rattle.fabric.specs.declared.refusals.Refusal.{Refusal}
-use Rattle.fabric.specs.declared.refusals.Refusal.TheVariants.{MeshSize, CubeSize}
+use Rattle.fabric.specs.Links.{thinned_meaning}
+use Rattle.fabric.specs.Snake.{label_of, mesh_meaning}
 use Rattle.figures.specs.declared.Figures.{Figures}
 use Rattle.figures.specs.declared.OtherFigures.{OtherFigures}
-
--- what is asked of a mesh, or the refusal where there is no such mesh
-abbrev pub on_mesh : {A : Type 0} → ℕ → ℕ → A → Result A Refusal
-on_mesh rows columns x = elim (shape_of rows columns) [ Ok s ↦ Ok x | Err n ↦ Err MeshSize ]
-
--- and what is asked of a cube
-abbrev pub on_cube : {A : Type 0} → ℕ → A → Result A Refusal
-on_cube dimension x = elim (dimension_of dimension) [ Ok d ↦ Ok x | Err n ↦ Err CubeSize ]
 
 -- what the rules give
 abbrev pub ruled : Figures
 ruled = record {
   labels = label_of 3 4 (3, 1) ∷ label_of 3 4 (0, 1) ∷ label_of 3 4 (0, 2) ∷ [];
-  hops = map (hop_of 16 (mesh_near 4 4) 6) (13 ∷ 7 ∷ 4 ∷ 1 ∷ []);
+  hops = map (hop_of (mesh_meaning 4 4) 6) (13 ∷ 7 ∷ 4 ∷ 1 ∷ []);
 }
 
 -- the figures themselves
@@ -36,7 +26,7 @@ known = record {
 abbrev pub ruled_others : OtherFigures
 ruled_others = record {
   addresses = map (slice_get (cube_addresses 3)) (2 ∷ 4 ∷ 7 ∷ []);
-  detour = hop_of 16 (thinned ((6, 9) ∷ []) (mesh_near 4 4)) 6 13;
+  detour = hop_of (thinned_meaning ((6, 9) ∷ []) (mesh_meaning 4 4)) 6 13;
 }
 
 abbrev pub known_others : OtherFigures

@@ -23,7 +23,7 @@ pub(crate) struct File {
 
 // The number as a label, if it is one.
 fn label<F: Fabric>(fabric: &F, number: u32) -> Result<u8, Complaint>
-    ensures { elim result [ Ok l ↦ (l ≡ number) × (l < F.Fabric.nodes fabric.now) | Err _ ↦ F.Fabric.nodes fabric.now ≤ number ] }
+    ensures { elim result [ Ok l ↦ (l ≡ number) × (l < (F.Fabric.meaning fabric.now).nodes) | Err _ ↦ (F.Fabric.meaning fabric.now).nodes ≤ number ] }
 {
     let size = fabric.size();
     u8::try_from(number)
