@@ -5,7 +5,7 @@ ghost use Rattle.fabric.specs.Refusals.{number_of};
 use thiserror::Error;
 
 /// One case for each reason to refuse, each with a number of its own. A refusal is shown as the rule that a call has to keep.
-#[derive(Clone, Copy, Debug, PartialEq, Eq, Error)]
+#[derive(Clone, Copy, Debug, Error)]
 pub enum Refusal {
     /// Rows or columns are 0, or their product exceeds 128.
     #[error("a mesh has at least 1 row and 1 column, and at most 128 nodes")]
