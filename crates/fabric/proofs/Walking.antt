@@ -144,6 +144,13 @@ module _ (m : Meaning) (law : Lawful m) (u v : ℕ) (known : exist m.nodes u v �
           ∙ so_far.whole;
     }
 
+  pub short : length xs ≤ 128
+  short =
+      let few = law.bounded in
+      let start = (true_exist m.nodes u v known).0 in
+      let long = (hops_lead m law v aim u start).1 in
+      omega (arith, aim, start, ap length so_far.whole, length-append xs (hops_of m at v))
+
   -- where there is no hop the labels are the way
   pub arrived_at : None ≡ hop_of m at v → xs ≡ u ∷ hops_of m u v
   arrived_at e =

@@ -15,6 +15,7 @@ pub mod Refusals
 pub mod Search
 pub mod Snake
 pub mod Steps
+pub mod Stored
 pub mod Way
 -- lemmas for the laws that each fabric proves: they are checked, and nobody has to believe them
 pub mod Answering

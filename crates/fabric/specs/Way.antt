@@ -1,5 +1,5 @@
 -- The way from a label to another hop by hop, and its length.
-use Rattle.std.specs.Prelude.{◌≡◌, ℕ, zero, suc, ◌-◌, ◌<◌, ◌≤◌, List, [], ◌∷◌, length, take, Some, None, Option}
+use Rattle.std.specs.Prelude.{◌≡◌, ℕ, zero, suc, ◌-◌, ◌<◌, ◌≤◌, List, [], ◌∷◌, length, Some, None, Option}
 use Rattle.fabric.specs.Fabrics.{Meaning}
 use Rattle.fabric.specs.Hop.{distance, exist, hop_of}
 use Rattle.fabric.specs.Options.{allowed}
@@ -28,7 +28,7 @@ length_of m u v = allowed (exist m.nodes u v) (length (hops_of m u v))
 
 -- what a path holds: its labels, and one hop less
 abbrev pub labels_of : Path → List ℕ
-labels_of p = take p.labels.used p.labels.memory
+labels_of p = p.labels.items
 
 abbrev pub hops_in : Path → ℕ
 hops_in p = length (labels_of p) - 1

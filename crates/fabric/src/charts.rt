@@ -1,5 +1,5 @@
 //! A fabric that is read from bytes, in fixed memory.
-ghost use Rattle.std.specs.Prelude.{◌≡◌, true, false, take, is_some};
+ghost use Rattle.std.specs.Prelude.{◌≡◌, true, false, is_some};
 ghost use Rattle.fabric.specs.Chart.{octets};
 ghost use Rattle.fabric.specs.Check.{fault};
 
@@ -9,6 +9,6 @@ use crate::bytes::Bytes;
 #[derive(Clone, Copy)]
 pub struct Chart {
     pub(crate) bytes: Bytes<1536>,
-    ghost passed: { is_some (fault (take bytes.used bytes.memory)) ≡ false },
-    ghost small: { octets (take bytes.used bytes.memory) ≡ true },
+    ghost passed: { is_some (fault bytes.items) ≡ false },
+    ghost small: { octets bytes.items ≡ true },
 }

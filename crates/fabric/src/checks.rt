@@ -1,5 +1,5 @@
 //! The records of a chart, and its check: question after question, each over all records.
-ghost use Rattle.std.specs.Prelude.{◌≡◌, ◌*◌, ◌<◌, ◌≤◌, nat_lt, slice_index};
+ghost use Rattle.std.specs.Prelude.{◌≡◌, ◌*◌, ◌/◌, ◌%◌, ◌<◌, ◌≤◌, nat_lt, slice_index};
 ghost use Rattle.fabric.specs.Chart.{records_of, port_at, named_at, address_at, record_with, chart_near, whole};
 ghost use Rattle.fabric.specs.Check.{names, taken, passes, passes_at, found, fault, fault_of};
 ghost use Rattle.fabric.specs.Options.{allowed};
@@ -128,17 +128,23 @@ fn passes(bytes: &[u8], question: Question, label: u8, port: u8) -> bool
     }
 }
 
-// The first place at which a question fails: place i is port i % 8 of record i / 8.
+// Record and port of a place: record after record, and there port after port.
+fn record_and_port(place: usize) -> (u8, u8)
+    requires { place < 1024 }
+    ensures { result ≡ (place / 8, place % 8) }
+{
+    ((place / 8) as u8, (place % 8) as u8)
+}
+
+// The first place at which a question fails.
 fn failing(bytes: &[u8], question: Question) -> Option<usize>
     requires { records_of bytes.now ≤ 128 }
     ensures { result ≡ first_fail (passes_at question bytes.now) (8 * records_of bytes.now) }
 {
-    (0..8 * records(bytes)).find(|place| !passes(
-        bytes,
-        question,
-        (place / 8) as u8,
-        (place % 8) as u8,
-    ))
+    (0..8 * records(bytes)).find(|place| {
+        let (record, port) = record_and_port(*place);
+        !passes(bytes, question, record, port)
+    })
 }
 
 // The first fault by a question: the one scan for all questions.
@@ -146,14 +152,15 @@ fn scan(bytes: &[u8], question: Question) -> Result<(), ChartFault>
     requires { records_of bytes.now ≤ 128 }
     ensures { fault_of result ≡ found bytes.now question }
 {
-    match failing(bytes, question) {
-        Some(place) => Err(ChartFault {
-            refusal: question.into(),
-            record: (place / 8) as u8,
-            port: (place % 8) as u8,
-        }),
-        None => Ok(()),
-    }
+    let Some(place) = failing(bytes, question) else {
+        return Ok(());
+    };
+    let (record, port) = record_and_port(place);
+    Err(ChartFault {
+        refusal: question.into(),
+        record,
+        port,
+    })
 }
 
 // The first fault of a chart.

@@ -1,5 +1,5 @@
 //! A fabric without the links that are closed.
-ghost use Rattle.std.specs.Prelude.{◌≡◌, ◌<◌, true, [], ◌∷◌, ◌++◌, length, Some, nat_lt};
+ghost use Rattle.std.specs.Prelude.{◌≡◌, ◌<◌, true, [], ◌∷◌, ◌++◌, length, Some};
 ghost use Rattle.fabric.specs.Fabrics.{SameMeaning};
 ghost use Rattle.fabric.specs.Refusals.{refusal};
 ghost use Rattle.fabric.specs.Links.{apart, joins, holds, unless_closed, neighbours, thinned, thinned_meaning, Thinned, close_refusal, closed_after, Closes};

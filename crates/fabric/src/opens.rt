@@ -22,6 +22,7 @@ fn alone() -> [u8; 12]
 
 impl Chart {
     /// Whether the bytes are a chart, and else the first fault.
+    #[tactic(auto, using(crate::specs::Charting::checked))]
     pub fn check(bytes: &[u8]) -> Result<(), ChartFault>
         ensures is { fault_of result ≡ fault bytes.now }
         ensures law { Checked bytes.now (fault_of result) }

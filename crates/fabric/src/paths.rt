@@ -1,5 +1,5 @@
 //! Labels one after another, in fixed memory.
-ghost use Rattle.std.specs.Prelude.{◌≤◌, length, take};
+ghost use Rattle.std.specs.Prelude.{◌≤◌, length};
 
 use crate::bytes::Bytes;
 
@@ -8,5 +8,6 @@ use crate::bytes::Bytes;
 #[derive(Clone, Copy)]
 pub struct Path {
     pub(crate) labels: Bytes<128>,
-    ghost some: { 1 ≤ length (take labels.used labels.memory) },
+    ghost some: { 1 ≤ length labels.items },
+    ghost short: { length labels.items ≤ 128 },
 }

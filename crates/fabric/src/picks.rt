@@ -1,5 +1,5 @@
 //! The choice of the best entry: one operation for every kind of list entry.
-ghost use Rattle.std.specs.Prelude.{◌≡◌, ℕ, Bool, Some};
+ghost use Rattle.std.specs.Prelude.{◌≡◌, ℕ, Bool};
 ghost use Rattle.fabric.specs.Pick.{better, picked, Picked};
 
 /// An entry that may be eligible, and is better the lower it ranks.

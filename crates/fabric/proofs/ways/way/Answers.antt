@@ -1,5 +1,5 @@
 use Rattle.std.proofs.Common.{sym, lit<}
-use Rattle.fabric.proofs.Walking.{room, less, further, arrived_at, walked_as}
+use Rattle.fabric.proofs.Walking.{room, less, further, short, arrived_at, walked_as}
 use Rattle.fabric.proofs.ways.way.Goals as goal
 
 pub push-requires : goal.push-requires
@@ -16,6 +16,14 @@ pub loop-next-preserved : goal.loop-next-preserved
 loop-next-preserved g c =
     let f = c.args.fabric.now in
     further (g.F.Fabric.meaning f) (g.met.F.Fabric.lawful f) c.args.from c.args.to (sym c.if-not-both_exist.ensures) c.loop-next.at _ c.loop-next.invariant c.in-Some.next c.in-Some.ensures.is _ c.push.ensures
+
+pub invariant_of-result : goal.invariant_of-result
+invariant_of-result g c =
+    let f = c.args.fabric.now in
+    record {
+      some = c.loop-next.invariant.some;
+      short = short (g.F.Fabric.meaning f) (g.met.F.Fabric.lawful f) c.args.from c.args.to (sym c.if-not-both_exist.ensures) c.loop-next.at _ c.loop-next.invariant;
+    }
 
 pub returns : goal.returns
 returns g c =

@@ -1,10 +1,9 @@
-use Rattle.std.proofs.Common.{take}
 use Rattle.fabric.specs.Hop.{distance}
 use Rattle.fabric.proofs.Walking.{Walked}
 use Rattle.fabric.proofs.ways.way.Given as goal
 
 abbrev pub invariant-loop-next : goal.invariant-loop-next
-invariant-loop-next g l = Walked (g.F.Fabric.meaning l.fabric) l.from l.to l.at (take l.labels.used l.labels.memory)
+invariant-loop-next g l = Walked (g.F.Fabric.meaning l.fabric) l.from l.to l.at l.labels.items
 
 abbrev pub decreases-loop-next : goal.decreases-loop-next
 decreases-loop-next g l = distance l.at l.to
