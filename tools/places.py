@@ -10,8 +10,8 @@ import sys
 
 PATTERNS = [
     ("1a", "an enum of our own", r"^\s*(?:pub(?:\(crate\))? )?enum \w+"),
-    ("1b", "255 in the place of none", r"(?:[!=]= 255\b|min\(255\)|unwrap_or\(255\)|[fF]or none, 255)"),
-    ("1c", "0 in the place of success or of none", r"(?:Ok\(\(?_?\)?\)|None) => 0,"),
+    ("1b", "255 in the place of none", r"[!=]= (?:255|NO_LABEL)\b|min\(255\)|unwrap_or\((?:255|u8::MAX|NO_LABEL)\)"),
+    ("1c", "0 in the place of success or of none", r"(?:Ok\(\(?_?\)?\)|None) => \(?0\b|(?:unwrap_or|map_or)\(\(?0\b"),
     ("1d", "if .. { Some(x) } else { None }, or the other way round", r"\{\s*Some\((?:[^{};]*)\)\s*\} else \{\s*None\s*\}|\{\s*None\s*\} else \{\s*Some\((?:[^{};]*)\)\s*\}"),
     ("1e", "an arm `None =>`, `Err(_) =>` or `Some(x) if` of a match taken apart by hand", r"^\s*(?:None|Err\(_\)|Some\(\w+\) if[^=]*(?:[<>=]=[^=>]*)*) =>"),
     ("1f", "a number for a refusal or a question, arm by arm", r"^\s*Refusal::\w+ => \d+,"),
@@ -24,7 +24,7 @@ PATTERNS = [
     ("4d", "`From` by hand", r"^\s*impl.* From<"),
     ("4e", "an enum turned into another or into text, arm by arm", r"^\s*(?:Refusal|Question)::\w+ => (?:\"|Refusal::)"),
     ("6a", "fixed memory with a length beside it", r"^\s*(?:pub(?:\(crate\))? )?(?:hops|used|count|len): (?:u8|usize),"),
-    ("7a", "a match on which step to run", r"^\s*match (?:question|action|kind\.as_str\(\)|next_word)"),
+    ("7a", "a match on which step to run", r"^\s*match (?:question|action|kind|next_word)"),
 ]
 
 
