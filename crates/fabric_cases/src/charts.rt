@@ -12,8 +12,8 @@ const TRIANGLE: [[u8; 12]; 3] = [
 ];
 
 fn put(bytes: &mut [u8], at: usize, byte: u8) {
-    if at < bytes.len() {
-        bytes[at] = byte;
+    if let Some(place) = bytes.get_mut(at) {
+        *place = byte;
     }
 }
 
