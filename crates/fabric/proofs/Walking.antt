@@ -1,5 +1,5 @@
 -- A walk by hops ends at its target, and the way is the only list of labels that leads there by hops.
-use Rattle.std.proofs.Common.{◌≡◌, ℕ, zero, suc, ◌-◌, ◌<◌, ◌≤◌, true, List, [], ◌∷◌, ◌++◌, length, Some, None, Option, sym, refl, ap, ◌∙◌, ⊎_elim, append_assoc, append-nil, arith, length-append}
+use Rattle.std.proofs.Common.{◌≡◌, ℕ, zero, suc, ◌+◌, ◌-◌, ◌<◌, ◌≤◌, true, List, [], ◌∷◌, ◌++◌, length, Some, None, Option, sym, refl, ap, ◌∙◌, ⊎_elim, append_assoc, append-nil, arith, length-append}
 use Rattle.std.proofs.lemmas.Bool.{cond-true, cases_eq}
 use Rattle.fabric.specs.Fabrics.{Meaning, Lawful}
 use Rattle.fabric.specs.Hop.{distance, exist, hop_of}
@@ -116,17 +116,21 @@ module _ (m : Meaning) (law : Lawful m) (u v : ℕ) (known : exist m.nodes u v �
   aim : v < m.nodes
   aim = (true_exist m.nodes u v known).1
 
+  -- a way has at most 127 hops, so that the labels so far and those still to come are at most 128
+  few_labels : length xs + length (hops_of m at v) ≤ 128
+  few_labels =
+      let few = law.bounded in
+      let start = (true_exist m.nodes u v known).0 in
+      let hops = (hops_lead m law v aim u start).1 in
+      omega (arith, aim, start, ap length so_far.whole, length-append xs (hops_of m at v))
+
   module _ (next : ℕ) (e : Some next ≡ hop_of m at v) where
     on : hops_of m at v ≡ next ∷ hops_of m next v
     on = hops_on m law v aim at next so_far.here (sym e)
 
-    -- a way has at most 127 hops, so there is room for the next label
+    -- there is room for the next label
     pub room : length xs < 128
-    room =
-        let few = law.bounded in
-        let start = (true_exist m.nodes u v known).0 in
-        let short = (hops_lead m law v aim u start).1 in
-        omega (arith, aim, start, ap length so_far.whole, length-append xs (hops_of m at v), ap length on)
+    room = omega (arith, few_labels, ap length on)
 
     -- it is nearer to the target
     pub less : distance next v < distance at v
@@ -144,12 +148,9 @@ module _ (m : Meaning) (law : Lawful m) (u v : ℕ) (known : exist m.nodes u v �
           ∙ so_far.whole;
     }
 
+  -- what a path asks of its labels
   pub short : length xs ≤ 128
-  short =
-      let few = law.bounded in
-      let start = (true_exist m.nodes u v known).0 in
-      let long = (hops_lead m law v aim u start).1 in
-      omega (arith, aim, start, ap length so_far.whole, length-append xs (hops_of m at v))
+  short = omega (arith, few_labels)
 
   -- where there is no hop the labels are the way
   pub arrived_at : None ≡ hop_of m at v → xs ≡ u ∷ hops_of m u v

@@ -1,9 +1,8 @@
 -- A chart passes every question exactly where it gives a fabric, with different addresses.
 use Rattle.std.specs.Prelude.{◌≡◌, ℕ, zero, suc, ◌+◌, ◌<◌, ◌≤◌, Bool, true, false, cond, find, map, not, ◌&&◌, ◌||◌, List, length, Some, None, Option, ◌==◌, ◌≢◌, nat_eq, nat_le, nat_lt, refl}
 use Rattle.std.proofs.Common.{sym, ap, subst, ◌∙◌, ⊎_elim, arith}
-use Rattle.std.specs.List.{slice_get, range_with_len}
+use Rattle.std.specs.List.{range_with_len}
 use Rattle.std.specs.Option.{option_map}
-use Rattle.std.proofs.lemmas.List.FromFn.{length-map-range_with_len}
 use Rattle.std.proofs.lemmas.Bool.{both_ways, cases_lt, cases_order, cases_eq, cases_Bool, ltb-true, lt-ltb, le-leb, lt-leb, eqb-true, eqb-false, eq-eqb, ne_eqb, and_parts, and_from, or_cases, or_left, or_right, not-true, not_from_false, cond-true}
 use Rattle.fabric.specs.Chart.{records_of, port_at, address_at, chart_near, chart_meaning, chart_addresses, record_with, Charted}
 use Rattle.fabric.specs.Check.{names, taken, fault, Checked}
@@ -12,9 +11,9 @@ use Rattle.fabric.specs.Options.{allowed}
 use Rattle.fabric.specs.declared.questions.Question.{Question}
 use Rattle.fabric.specs.declared.questions.Question.TheVariants.{Exists, Other, New, Mutual, Address, Next}
 use Rattle.fabric.specs.Asking.{TestsPass, Sound, Verdict, verdict, sound, no_fault}
-use Rattle.fabric.specs.Coding.{different, long, address_is, located}
+use Rattle.fabric.specs.Coding.{different, label_as}
 use Rattle.fabric.specs.Counting.{nth_counted}
-use Rattle.fabric.specs.Optional.{allowed_is, cond_is, with_law}
+use Rattle.fabric.specs.Optional.{allowed_is, cond_is}
 use Rattle.fabric.specs.Placing.{Placing}
 use Rattle.fabric.specs.Searching.{below_hit, below_found}
 
@@ -54,6 +53,22 @@ aside x t ne e = ⊎_elim (λ f. absurd (ne (eqb-true x 255 f))) (λ f. f) (or_c
 -- of two different numbers one comes first
 one_first : (i j : ℕ) → (i < j → ⊥) → (j < i → ⊥) → i ≡ j
 one_first i j up down = ⊎_elim (λ e. e) (λ o. absurd (⊎_elim up down o)) (cases_order i j)
+
+-- the first number at which a function takes a value is the place of that value among what it gives in turn
+first_with : (f : ℕ → ℕ) (x a n : ℕ) → find (λ k. f k == x) (range_with_len a n) ≡ option_map (λ i. a + i) (label_with (map f (range_with_len a n)) x)
+first_with f x a zero = refl
+first_with f x a (suc n) = go (first_with f x (a + 1) n) (f a == x)
+  where
+    rest : Option ℕ
+    rest = label_with (map f (range_with_len (a + 1) n)) x
+
+    shifted : (o : Option ℕ) → option_map (λ i. (a + 1) + i) o ≡ option_map (λ i. a + i) (option_map (λ i. i + 1) o)
+    shifted None = refl
+    shifted (Some i) = ap Some (omega arith)
+
+    go : find (λ k. f k == x) (range_with_len (a + 1) n) ≡ option_map (λ i. (a + 1) + i) rest → (t : Bool) → cond t (Some a) (find (λ k. f k == x) (range_with_len (a + 1) n)) ≡ option_map (λ i. a + i) (cond t (Some 0) (option_map (λ i. i + 1) rest))
+    go e true = ap Some (omega arith)
+    go e false = e ∙ shifted rest
 
 module _ (b : List ℕ) (s : Sound b) where
   abbrev n : ℕ
@@ -116,7 +131,7 @@ module _ (b : List ℕ) (s : Sound b) where
   one_address i j h l e = one_first i j (twice i j l e) (twice j i h (sym e))
 
   -- the records are places of their own, with the addresses as a code
-  placing : Placing (λ k. k < n) n (λ k. k) (λ k. k) (chart_near b)
+  pub placing : Placing (λ k. k < n) n (λ k. k) (λ k. k) (chart_near b)
   placing = record {
     nonempty = chart_lawful.nonempty;
     bounded = few;
@@ -134,35 +149,13 @@ module _ (b : List ℕ) (s : Sound b) where
   pub chart_different : AllDifferent (chart_addresses b)
   chart_different = different placing (address_at b) one_address
 
-  -- what `address` and `label_of` owe
-  pub address_as : (k : ℕ) (r : Option ℕ) → r ≡ allowed (nat_lt k n) (address_at b k) → record { is : r ≡ slice_get (chart_addresses b) k; long : length (chart_addresses b) ≡ n }
-  address_as k r e = record { is = e ∙ address_is placing (address_at b) k; long = long placing (address_at b) }
-
--- the first number at which a function takes a value is the place of that value among what it gives in turn
-first_with : (f : ℕ → ℕ) (x a n : ℕ) → find (λ k. f k == x) (range_with_len a n) ≡ option_map (λ i. a + i) (label_with (map f (range_with_len a n)) x)
-first_with f x a zero = refl
-first_with f x a (suc n) = go (first_with f x (a + 1) n) (f a == x)
-  where
-    rest : Option ℕ
-    rest = label_with (map f (range_with_len (a + 1) n)) x
-
-    shifted : (o : Option ℕ) → option_map (λ i. (a + 1) + i) o ≡ option_map (λ i. a + i) (option_map (λ i. i + 1) o)
-    shifted None = refl
-    shifted (Some i) = ap Some (omega arith)
-
-    go : find (λ k. f k == x) (range_with_len (a + 1) n) ≡ option_map (λ i. (a + 1) + i) rest → (t : Bool) → cond t (Some a) (find (λ k. f k == x) (range_with_len (a + 1) n)) ≡ option_map (λ i. a + i) (cond t (Some 0) (option_map (λ i. i + 1) rest))
-    go e true = ap Some (omega arith)
-    go e false = e ∙ shifted rest
-
--- what `label_of` owes
-pub record_as : (b : List ℕ) (x : ℕ) (r : Option ℕ) → r ≡ record_with b (records_of b) x → record { is : r ≡ label_with (chart_addresses b) x; law : Located (chart_addresses b) x r; long : length (chart_addresses b) ≡ records_of b }
-record_as b x r e =
-    let found = with_law (Located (chart_addresses b) x) _ (located (chart_addresses b) x) r (e ∙ first_with (address_at b) x 0 (records_of b) ∙ from_zero (label_with (chart_addresses b) x)) in
-    record { is = found.is; law = found.law; long = length-map-range_with_len (address_at b) 0 (records_of b) }
-  where
-    from_zero : (o : Option ℕ) → option_map (λ i. 0 + i) o ≡ o
-    from_zero None = refl
-    from_zero (Some i) = ap Some (omega arith)
+  -- what `label_of` owes
+  pub record_as : (x : ℕ) (r : Option ℕ) → r ≡ record_with b n x → record { is : r ≡ label_with (chart_addresses b) x; law : Located (chart_addresses b) x r; long : length (chart_addresses b) ≡ n }
+  record_as x r e = label_as placing (address_at b) x r (e ∙ first_with (address_at b) x 0 n ∙ from_zero (label_with (chart_addresses b) x))
+    where
+      from_zero : (o : Option ℕ) → option_map (λ i. 0 + i) o ≡ o
+      from_zero None = refl
+      from_zero (Some i) = ap Some (omega arith)
 
 -- and back
 module _ (b : List ℕ) (s : Charted b) where
