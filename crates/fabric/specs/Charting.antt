@@ -4,7 +4,7 @@ use Rattle.std.proofs.Common.{sym, ap, subst, ◌∙◌, ⊎_elim, arith}
 use Rattle.std.specs.List.{range_with_len}
 use Rattle.std.specs.Option.{option_map}
 use Rattle.std.proofs.lemmas.Bool.{both_ways, cases_lt, cases_order, cases_eq, cases_Bool, ltb-true, lt-ltb, le-leb, lt-leb, eqb-true, eqb-false, eq-eqb, ne_eqb, and_parts, and_from, or_cases, or_left, or_right, not-true, not_from_false, cond-true}
-use Rattle.fabric.specs.Chart.{records_of, port_at, address_at, chart_near, chart_meaning, chart_addresses, record_with, Charted}
+use Rattle.fabric.specs.Chart.{records_of, port_at, address_at, chart_near, chart_meaning, chart_addresses, record_with, Charted, Recorded}
 use Rattle.fabric.specs.Check.{names, taken, fault, Checked}
 use Rattle.fabric.specs.Fabrics.{Lawful, AllDifferent, label_with, Located}
 use Rattle.fabric.specs.Options.{allowed}
@@ -13,7 +13,7 @@ use Rattle.fabric.specs.declared.questions.Question.TheVariants.{Exists, Other, 
 use Rattle.fabric.specs.Asking.{TestsPass, Sound, Verdict, verdict, sound, no_fault}
 use Rattle.fabric.specs.Coding.{different, label_as}
 use Rattle.fabric.specs.Counting.{nth_counted}
-use Rattle.fabric.specs.Optional.{allowed_is, cond_is}
+use Rattle.fabric.specs.Optional.{allowed_is, cond_is, with_law}
 use Rattle.fabric.specs.Placing.{Placing}
 use Rattle.fabric.specs.Searching.{below_hit, below_found}
 
@@ -35,6 +35,10 @@ is_near b u p v h l e ne =
     near_inside b u p h l
     ∙ cond-true (not (port_at b u p == 255)) (Some (port_at b u p)) None (not_from_false (port_at b u p == 255) (ne_eqb (port_at b u p) 255 (λ f. ne (sym e ∙ f))))
     ∙ ap Some e
+
+-- what the chart answers is what its records have
+pub chart_near_as : (b : List ℕ) (u p : ℕ) (r : Option ℕ) → r ≡ chart_near b u p → record { is : r ≡ chart_near b u p; law : Recorded b u p r }
+chart_near_as b u p = with_law (Recorded b u p) _ (λ v. (near_is b u p v, λ h. is_near b u p v h.0 h.1 h.2 h.3))
 
 -- a search that finds, and one that does not
 named : (b : List ℕ) (k v n : ℕ) → names b k v n ≡ true → (q : ℕ) × (q < n) × (port_at b k q ≡ v)

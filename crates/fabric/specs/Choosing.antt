@@ -10,7 +10,7 @@ use Rattle.fabric.specs.Optional.{nothing, same}
 
 module _ {A : Type 0} (rank : A → ℕ) where
   -- the better of two that may be missing
-  abbrev best : Option A → Option A → Option A
+  abbrev pub best : Option A → Option A → Option A
   best None b = b
   best (Some x) None = Some x
   best (Some x) (Some y) = Some (better rank x y)
@@ -72,6 +72,15 @@ module _ {A : Type 0} (eligible : A → Bool) (rank : A → ℕ) where
   from_front : (x : A) (xs : List A) (b : Bool) → reduce (better rank) (cond b (x ∷ filter eligible xs) (filter eligible xs)) ≡ best rank (allowed b x) (picked eligible rank xs)
   from_front x xs true = kept rank x (filter eligible xs)
   from_front x xs false = refl
+
+  -- a loop over all entries, of which those that are not eligible are passed over
+  pub one_by_one : (a : Option A) (xs : List A) → fold (λ b x. best rank b (allowed (eligible x) x)) a xs ≡ best rank a (picked eligible rank xs)
+  one_by_one None [] = refl
+  one_by_one (Some x) [] = refl
+  one_by_one a (x ∷ xs) =
+      one_by_one (best rank a (allowed (eligible x) x)) xs
+      ∙ sym (best_assoc rank a (allowed (eligible x) x) (picked eligible rank xs))
+      ∙ ap (best rank a) (sym (from_front x xs (eligible x)))
 
   pub picked_law : (xs : List A) → Picked eligible rank xs (picked eligible rank xs)
   picked_law [] = λ j y at fit. nothing at

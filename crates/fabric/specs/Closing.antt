@@ -91,6 +91,14 @@ thinned_lawful ls m spared law = record {
   chain = λ u h. let c = law.chain u h in (c.0, (thinned_law ls m.near u c.0 (u + 1)).1 (c.1, closed_chain ls u spared));
 }
 
+-- with all links open the neighbours are those below
+pub all_open : (near : Near) (u p : ℕ) → thinned [] near u p ≡ near u p
+all_open near u p = go (near u p)
+  where
+    go : (o : Option ℕ) → unless_closed [] u o ≡ o
+    go None = refl
+    go (Some v) = refl
+
 -- ---- neighbours that a port leads to
 
 is_at_decides : (v : ℕ) (o : Option ℕ) → Decides (is_at v o) (o ≡ Some v)

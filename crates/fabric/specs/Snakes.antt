@@ -15,9 +15,13 @@ use Rattle.fabric.specs.Placing.{Placing, placed_lawful, placed_by_steps}
 pub narrow : (rows columns : ℕ) → Shape rows columns → (rows ≤ 128) × (columns ≤ 128)
 narrow r c h = (omega (arith, mul-le r 1 r c (omega arith) h.1), omega (arith, mul-le 1 c r c h.0 (omega arith)))
 
+-- numbers that are no mesh's
+pub shapeless : (rows columns : ℕ) → (Shape rows columns → ⊥) → Err 1 ≡ shape_of rows columns
+shapeless r c out = grind (arith, nat_tests)
+
 -- no mesh has more than 128 rows or more than 128 columns
 pub oversized : (rows columns : ℕ) → (rows ≤ 128 → columns ≤ 128 → ⊥) → Err 1 ≡ shape_of rows columns
-oversized r c out = grind (arith, nat_tests, narrow)
+oversized r c out = shapeless r c (λ h. let s = narrow r c h in out s.0 s.1)
 
 -- a row goes forth or back
 pub turned_below : (n y x : ℕ) → x < n → turned n y x < n

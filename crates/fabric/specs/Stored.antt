@@ -1,7 +1,7 @@
 -- What a contract sees of bytes in fixed memory.
-use Rattle.std.specs.Prelude.{ℕ, List}
+use Rattle.std.specs.Prelude.{ℕ, List, take}
+use Rattle.fabric.specs.declared.bytes.Bytes.{Bytes}
 
--- the bytes, and the unused room, of which no promise speaks
-pub record Stored : Type 0 where
-  pub items : List ℕ
-  pub spare : List ℕ
+-- the bytes, one after another: the used part of the memory
+abbrev pub stored : {n : ℕ} → Bytes n → List ℕ
+stored b = take b.used b.memory

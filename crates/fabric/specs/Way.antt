@@ -3,6 +3,7 @@ use Rattle.std.specs.Prelude.{◌≡◌, ℕ, zero, suc, ◌-◌, ◌<◌, ◌�
 use Rattle.fabric.specs.Fabrics.{Meaning}
 use Rattle.fabric.specs.Hop.{distance, exist, hop_of}
 use Rattle.fabric.specs.Options.{allowed}
+use Rattle.fabric.specs.Stored.{stored}
 use Rattle.fabric.specs.declared.paths.Path.{Path}
 
 -- where a hop leads, and where the next ones lead from there
@@ -28,7 +29,7 @@ length_of m u v = allowed (exist m.nodes u v) (length (hops_of m u v))
 
 -- what a path holds: its labels, and one hop less
 abbrev pub labels_of : Path → List ℕ
-labels_of p = p.labels.items
+labels_of p = stored p.labels
 
 abbrev pub hops_in : Path → ℕ
 hops_in p = length (labels_of p) - 1

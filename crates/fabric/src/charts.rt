@@ -2,6 +2,7 @@
 ghost use Rattle.std.specs.Prelude.{◌≡◌, true, false, is_some};
 ghost use Rattle.fabric.specs.Chart.{octets};
 ghost use Rattle.fabric.specs.Check.{fault};
+ghost use Rattle.fabric.specs.Stored.{stored};
 
 use crate::bytes::Bytes;
 
@@ -9,6 +10,6 @@ use crate::bytes::Bytes;
 #[derive(Clone, Copy)]
 pub struct Chart {
     pub(crate) bytes: Bytes<1536>,
-    ghost passed: { is_some (fault bytes.items) ≡ false },
-    ghost small: { octets bytes.items ≡ true },
+    ghost passed: { is_some (fault (stored bytes)) ≡ false },
+    ghost small: { octets (stored bytes) ≡ true },
 }

@@ -1,10 +1,9 @@
 //! The hop from a node towards another, on any fabric.
 ghost use Rattle.std.specs.Prelude.{◌≡◌};
-ghost use Rattle.fabric.specs.Hop.{exist, leads_onward, labels_short, exits_of, hop_of, Hopped};
+ghost use Rattle.fabric.specs.Hop.{exist, leads_onward, labels_short, exit_of, exits_of, hop_of, Hopped};
 
 use crate::picks::{Ranked, pick};
 use crate::traits::Fabric;
-use std::array;
 
 // A port of `from` and where it leads, as seen by a message to `towards`.
 #[derive(Clone, Copy)]
@@ -39,15 +38,31 @@ pub(crate) fn both_exist<F: Fabric>(fabric: &F, u: u8, v: u8) -> bool
     u < size && v < size
 }
 
+// A port of a node.
+fn exit_at<F: Fabric>(fabric: &F, from: u8, towards: u8, port: u8) -> Exit
+    ensures { result ≡ exit_of (F.Fabric.meaning fabric.now).near from towards port }
+{
+    Exit {
+        from,
+        towards,
+        neighbour: fabric.neighbour(from, port),
+    }
+}
+
 // The eight ports of a node.
 fn exits<F: Fabric>(fabric: &F, from: u8, towards: u8) -> [Exit; 8]
     ensures { result ≡ exits_of (F.Fabric.meaning fabric.now).near from towards }
 {
-    array::from_fn(|port| Exit {
-        from,
-        towards,
-        neighbour: fabric.neighbour(from, port as u8),
-    })
+    [
+        exit_at(fabric, from, towards, 0),
+        exit_at(fabric, from, towards, 1),
+        exit_at(fabric, from, towards, 2),
+        exit_at(fabric, from, towards, 3),
+        exit_at(fabric, from, towards, 4),
+        exit_at(fabric, from, towards, 5),
+        exit_at(fabric, from, towards, 6),
+        exit_at(fabric, from, towards, 7),
+    ]
 }
 
 /// The neighbour of greatest label above `from` and not above `towards`, or of least label below and not below.

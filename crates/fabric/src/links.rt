@@ -1,5 +1,5 @@
 //! The closed links of a layout.
-ghost use Rattle.std.specs.Prelude.{◌≡◌, true};
+ghost use Rattle.std.specs.Prelude.{◌≡◌, ◌≤◌, true, length};
 ghost use Rattle.fabric.specs.Links.{all_apart};
 
 use arrayvec::ArrayVec;
@@ -9,5 +9,6 @@ use arrayvec::ArrayVec;
 #[derive(Drop)]
 pub(crate) struct Closed {
     pub(crate) links: ArrayVec<(u8, u8), 64>,
+    ghost few: { length links.items ≤ 64 },
     ghost spared: { all_apart links.items ≡ true },
 }

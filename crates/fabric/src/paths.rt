@@ -1,5 +1,6 @@
 //! Labels one after another, in fixed memory.
 ghost use Rattle.std.specs.Prelude.{◌≤◌, length};
+ghost use Rattle.fabric.specs.Stored.{stored};
 
 use crate::bytes::Bytes;
 
@@ -8,6 +9,6 @@ use crate::bytes::Bytes;
 #[derive(Clone, Copy)]
 pub struct Path {
     pub(crate) labels: Bytes<128>,
-    ghost some: { 1 ≤ length labels.items },
-    ghost short: { length labels.items ≤ 128 },
+    ghost some: { 1 ≤ length (stored labels) },
+    ghost short: { length (stored labels) ≤ 128 },
 }

@@ -1,6 +1,8 @@
 //! The choice of the best entry: one operation for every kind of list entry.
 ghost use Rattle.std.specs.Prelude.{◌≡◌, ℕ, Bool};
-ghost use Rattle.fabric.specs.Pick.{better, picked, Picked};
+ghost use Rattle.fabric.specs.Options.{allowed};
+ghost use Rattle.fabric.specs.Pick.{picked, Picked};
+ghost use Rattle.fabric.specs.Choosing.{best};
 
 /// An entry that may be eligible, and is better the lower it ranks.
 pub trait Ranked {
@@ -15,14 +17,14 @@ pub trait Ranked {
         ensures { result ≡ rank self.now };
 }
 
-// The one of lesser rank, the first on a tie.
-fn lesser<T: Ranked + Copy>(best: T, entry: T) -> T
-    ensures { result ≡ better T.Ranked.rank best entry }
+// The best so far, unless the next entry is eligible and ranks lower.
+fn best_with<T: Ranked + Copy>(so_far: Option<T>, entry: T) -> Option<T>
+    ensures { result ≡ best T.Ranked.rank so_far (allowed (T.Ranked.eligible entry) entry) }
 {
-    if best.rank() <= entry.rank() {
-        best
+    if !entry.eligible() || so_far.is_some_and(|best| best.rank() <= entry.rank()) {
+        so_far
     } else {
-        entry
+        Some(entry)
     }
 }
 
@@ -31,9 +33,5 @@ pub fn pick<T: Ranked + Copy>(entries: &[T]) -> Option<T>
     ensures is { result ≡ picked T.Ranked.eligible T.Ranked.rank entries.now }
     ensures law { Picked T.Ranked.eligible T.Ranked.rank entries.now result }
 {
-    entries
-        .iter()
-        .copied()
-        .filter(|entry| entry.eligible())
-        .reduce(lesser)
+    entries.iter().copied().fold(None, best_with)
 }

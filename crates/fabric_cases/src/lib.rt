@@ -6,6 +6,8 @@ mod answers;
 #[cfg(test)]
 mod charts;
 #[cfg(test)]
+mod copies;
+#[cfg(test)]
 mod cubes;
 #[cfg(test)]
 mod hops;
